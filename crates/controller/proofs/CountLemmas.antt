@@ -25,11 +25,11 @@ use Rattle.controller.specs.CyclePoint.{cycle_point, cycle_info, cycle_finished}
 use Rattle.controller.specs.Errors.{error_raised, error_ob_started, error_in, is_synchronous}
 use Rattle.controller.specs.Event.{entry_counted, entry_effect, state_after}
 use Rattle.controller.specs.Replay.{entry_result, state_after_entries, replay, CountsEntries, CountsHistory}
-use Rattle.controller.specs.Requests.{stopped_if, tick_state_taken, arrival_served}
+use Rattle.controller.specs.Requests.{state_stopped_if, tick_state_taken, arrival_served}
 use Rattle.controller.specs.Serving.{ServiceResult, Returns, Passes, Stops, after_service, system_function_served}
 use Rattle.controller.specs.Settling.{after_settling, best_started, request_started, request_taken, may_start}
-use Rattle.controller.specs.Start.{before_start, restart_cleared, warm_restarted, initial_state, state_in_startup, startup_ob}
-use Rattle.controller.specs.State.{State, is_stop, diagnosis_recorded, each_diagnosed}
+use Rattle.controller.specs.Start.{before_start, restart_cleared, state_after_warm_restart, initial_state, state_in_startup, startup_ob}
+use Rattle.controller.specs.State.{State, is_stop, diagnosis_recorded, diagnoses_recorded}
 use Rattle.controller.specs.Stepping.{after_step, step_of_first, after_statement, run_starts, with_activations}
 use Rattle.controller.specs.Stopping.{stop_entered, stop_entered_at, spot_of_frame}
 use Rattle.controller.specs.Ticking.{time_passed, tick_taken, active_obs, timers_moved}
@@ -40,7 +40,7 @@ if_counts true s t n one other = one
 if_counts false s t n one other = other
 
 diagnosed_counts : (records : List (ℕ × ℕ)) (s : State)
-    → (each_diagnosed records s).entries ≡ s.entries
+    → (diagnoses_recorded records s).entries ≡ s.entries
 diagnosed_counts [] s = refl
 diagnosed_counts (one ∷ rest) s = diagnosed_counts rest (diagnosis_recorded one.0 one.1 s)
 
@@ -115,7 +115,7 @@ unfolding after_step
 stepped_counts code s = stepped_on_counts code s.activations s
 
 stopped_counts : (code : Code) (cause : Option ℕ) (s : State)
-    → (stopped_if code cause s).entries ≡ s.entries
+    → (state_stopped_if code cause s).entries ≡ s.entries
 stopped_counts code None s = refl
 stopped_counts code (Some cause) s = halted_counts code cause s
 
@@ -123,7 +123,7 @@ tick_state_counts : (code : Code) (c : TickState) (s : State)
     → (tick_state_taken code c s).entries ≡ s.entries
 tick_state_counts code c s =
     stopped_counts code c.passed.stop
-    (each_diagnosed c.passed.records.items (record s { sched = c.sched }))
+    (diagnoses_recorded c.passed.records.items (record s { sched = c.sched }))
     ∙ diagnosed_counts c.passed.records.items (record s { sched = c.sched })
 
 arrived_counts : (code : Code) (ob value : ℕ) (s : State)
@@ -150,8 +150,8 @@ started_counts : (begun : Option Activation) (s : State) → (state_in_startup b
 started_counts None s = refl
 started_counts (Some a) s = refl
 
-restarted_counts : (code : Code) (s : State) → (warm_restarted code s).entries ≡ s.entries
-unfolding warm_restarted
+restarted_counts : (code : Code) (s : State) → (state_after_warm_restart code s).entries ≡ s.entries
+unfolding state_after_warm_restart
 restarted_counts code s =
     started_counts (startup_ob s.profile code) (restart_cleared (diagnosis_recorded 6 0 s))
 
@@ -164,7 +164,7 @@ asked_counts code ask.Stop s =
     if_counts (is_stop s.mode) s (stop_entered code causes.by_operator s) s.entries refl
     (halted_counts code causes.by_operator s)
 asked_counts code ask.Restart s =
-    if_counts (is_stop s.mode) (warm_restarted code s) s s.entries (restarted_counts code s) refl
+    if_counts (is_stop s.mode) (state_after_warm_restart code s) s s.entries (restarted_counts code s) refl
 asked_counts code (ask.MonitorOn block) s =
     if_counts (is_some (code.head block)) (record s { monitored = Some block }) s s.entries refl
     refl

@@ -55,12 +55,12 @@ use Rattle.controller.specs.Fitting.{AllFit, AreInRange, EntriesKeepFit, FitIsRe
 use Rattle.controller.specs.MachineLaws.{MachineLaws}
 use Rattle.controller.specs.Ready.{IsReady}
 use Rattle.controller.specs.Replay.{entry_result, state_after_entries, replay}
-use Rattle.controller.specs.Requests.{stopped_if, tick_state_taken, arrival_served}
+use Rattle.controller.specs.Requests.{state_stopped_if, tick_state_taken, arrival_served}
 use Rattle.controller.specs.Serving.{ServiceResult, Returns, Passes, Stops as Halts, in_parameter, system_function_served, result_given, after_service}
 use Rattle.controller.specs.Settling.{may_start, request_taken, request_started, best_started, after_settling}
 use Rattle.controller.specs.Stack.{IsActivationStack, MayBegin}
-use Rattle.controller.specs.Start.{before_start, restart_cleared, loaded_obs, warm_restarted, initial_state, state_in_startup, startup_info, startup_ob}
-use Rattle.controller.specs.State.{State, is_stop, diagnosis_recorded, each_diagnosed}
+use Rattle.controller.specs.Start.{before_start, restart_cleared, loaded_obs, state_after_warm_restart, initial_state, state_in_startup, startup_info, startup_ob}
+use Rattle.controller.specs.State.{State, is_stop, diagnosis_recorded, diagnoses_recorded}
 use Rattle.controller.specs.Stepping.{after_step, step_of_first, after_statement, run_starts, ob_ended, with_activations}
 use Rattle.controller.specs.Stopping.{stop_entered, stop_entered_at, running_spot, spot_of_frame}
 use Rattle.controller.specs.Ticking.{active_obs, tick_taken, time_passed, timers_moved}
@@ -174,7 +174,7 @@ diagnosed_fit p code info s fit = record {
 }
 
 each_fit : (p : Program) (records : List (ℕ × ℕ)) (s : State) → IsFit p s
-    → IsFit p (each_diagnosed records s)
+    → IsFit p (diagnoses_recorded records s)
 each_fit p [] s fit = fit
 each_fit p (one ∷ rest) s fit =
     each_fit p rest (diagnosis_recorded one.0 one.1 s) (diagnosed_fit p one.0 one.1 s fit)
@@ -503,7 +503,7 @@ unless_stop p s t fit next = by (is_stop s.mode) refl
 -- ---- arrivals and passing time
 
 stopped_fits : (l : MachineLaws) (p : Program) (cause : Option ℕ) (s : State) → IsFit p s
-    → IsFit p (stopped_if (code_of p) cause s)
+    → IsFit p (state_stopped_if (code_of p) cause s)
 stopped_fits l p None s fit = fit
 stopped_fits l p (Some cause) s fit = halted_fits l p cause s fit
 
@@ -511,7 +511,7 @@ tick_state_fits : (l : MachineLaws) (p : Program) (c : TickState) (s : State) �
     → IsFit p (tick_state_taken (code_of p) c s)
 tick_state_fits l p c s is fit =
     stopped_fits l p c.passed.stop
-    (each_diagnosed c.passed.records.items (record s { sched = c.sched }))
+    (diagnoses_recorded c.passed.records.items (record s { sched = c.sched }))
     (each_fit p c.passed.records.items (record s { sched = c.sched })
     (other_sched p s c.sched is fit))
 
@@ -615,8 +615,8 @@ written_fits l m var value None is = same_sizes m
 written_fits l m var value (Some n) is = l.writes m n var.place var.width value is
 
 restart_fits : (l : MachineLaws) (p : Program) (s : State) → Verifies p → is_stop s.mode ≡ true
-    → IsFit p s → IsFit p (warm_restarted (code_of p) s)
-unfolding warm_restarted
+    → IsFit p s → IsFit p (state_after_warm_restart (code_of p) s)
+unfolding state_after_warm_restart
 restart_fits l p s verifies stop fit =
     let next : IsFit p (restart_cleared (diagnosis_recorded 6 0 s)) =
     cleared_fits l p (diagnosis_recorded 6 0 s) (diagnosed_fit p 6 0 s fit) in
@@ -647,7 +647,7 @@ asked_fits l p ask.Stop s verifies fit =
 asked_fits l p ask.Restart s verifies fit = by (is_stop s.mode) refl
   where
     by : (test : Bool) → is_stop s.mode ≡ test
-        → IsFit p (if test then warm_restarted (code_of p) s else s)
+        → IsFit p (if test then state_after_warm_restart (code_of p) s else s)
     by true is = restart_fits l p s verifies is fit
     by false is = fit
 asked_fits l p (ask.MonitorOn block) s verifies fit =

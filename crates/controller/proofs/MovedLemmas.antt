@@ -42,12 +42,12 @@ use Rattle.controller.specs.Event.{entry_counted, entry_effect, state_after}
 use Rattle.controller.specs.Monitoring.{is_monitored, monitoring_record, mon_record_at, regs_after, regs_served, step_record}
 use Rattle.controller.specs.MovedCode.{moved_state, EntriesMove, HistoriesMove}
 use Rattle.controller.specs.Replay.{EntryResult, entry_result_between, entry_result, replay, reply_to, state_after_entries}
-use Rattle.controller.specs.Requests.{stopped_if, tick_state_taken, arrival_served}
+use Rattle.controller.specs.Requests.{state_stopped_if, tick_state_taken, arrival_served}
 use Rattle.controller.specs.Serving.{ServiceResult, Returns, Passes, Stops, system_function_served, after_service, system_call_served, in_parameter}
 use Rattle.controller.specs.Settling.{may_start, request_taken, request_started, best_started, after_settling}
 use Rattle.controller.specs.ShownEntry.{observed_changes, entry_shown}
-use Rattle.controller.specs.Start.{all_obs, before_start, restart_cleared, warm_restarted, initial_state, state_in_startup, startup_info, startup_ob}
-use Rattle.controller.specs.State.{State, is_stop, diagnosis_recorded, each_diagnosed}
+use Rattle.controller.specs.Start.{all_obs, before_start, restart_cleared, state_after_warm_restart, initial_state, state_in_startup, startup_info, startup_ob}
+use Rattle.controller.specs.State.{State, is_stop, diagnosis_recorded, diagnoses_recorded}
 use Rattle.controller.specs.Stepping.{run_starts, ob_ended, after_statement, step_of_first, after_step}
 use Rattle.controller.specs.Stopping.{spot_of_frame, running_spot, stop_entered_at, stop_entered}
 use Rattle.controller.specs.Ticking.{active_obs, time_passed, tick_taken, timers_moved}
@@ -125,7 +125,7 @@ spots_move : (f : Positions) (c d : Code) (activations : List Activation) → Fo
 spots_move f c d [] follows = refl
 spots_move f c d (a ∷ below) follows = spot_moves f c d a.running.frame follows
 
-diagnosed_moves : (f : Positions) (records : List (ℕ × ℕ)) (s : State) → each_diagnosed records (moved_state f s) ≡ moved_state f (each_diagnosed records s)
+diagnosed_moves : (f : Positions) (records : List (ℕ × ℕ)) (s : State) → diagnoses_recorded records (moved_state f s) ≡ moved_state f (diagnoses_recorded records s)
 diagnosed_moves f [] s = refl
 diagnosed_moves f (one ∷ rest) s = diagnosed_moves f rest (diagnosis_recorded one.0 one.1 s)
 
@@ -138,7 +138,7 @@ halted_moves f c d cause s follows =
 
 stopped_moves :
     (f : Positions) (c d : Code) (cause : Option ℕ) (s : State) → FollowsCode f c d
-    → stopped_if d cause (moved_state f s) ≡ moved_state f (stopped_if c cause s)
+    → state_stopped_if d cause (moved_state f s) ≡ moved_state f (state_stopped_if c cause s)
 stopped_moves f c d None s follows = refl
 stopped_moves f c d (Some cause) s follows = halted_moves f c d cause s follows
 
@@ -146,8 +146,8 @@ tick_state_moves :
     (f : Positions) (c d : Code) (tick : TickState) (s : State) → FollowsCode f c d
     → tick_state_taken d tick (moved_state f s) ≡ moved_state f (tick_state_taken c tick s)
 tick_state_moves f c d tick s follows =
-    ap (stopped_if d tick.passed.stop) (diagnosed_moves f tick.passed.records.items (record s { sched = tick.sched }))
-    ∙ stopped_moves f c d tick.passed.stop (each_diagnosed tick.passed.records.items (record s { sched = tick.sched })) follows
+    ap (state_stopped_if d tick.passed.stop) (diagnosed_moves f tick.passed.records.items (record s { sched = tick.sched }))
+    ∙ stopped_moves f c d tick.passed.stop (diagnoses_recorded tick.passed.records.items (record s { sched = tick.sched })) follows
 
 -- ---- system functions
 
@@ -402,8 +402,8 @@ started_moves f None s = refl
 started_moves f (Some a) s = refl
 
 restarted_moves :
-    (f : Positions) (c d : Code) (s : State) → FollowsCode f c d → warm_restarted d (moved_state f s) ≡ moved_state f (warm_restarted c s)
-unfolding warm_restarted
+    (f : Positions) (c d : Code) (s : State) → FollowsCode f c d → state_after_warm_restart d (moved_state f s) ≡ moved_state f (state_after_warm_restart c s)
+unfolding state_after_warm_restart
 restarted_moves f c d s follows =
     ap (λ (o : Option Activation). state_in_startup o (moved_state f (restart_cleared (diagnosis_recorded 6 0 s)))) (ob_in_moves s.profile f c d 27 100 startup_info follows)
     ∙ started_moves f (startup_ob s.profile c) (restart_cleared (diagnosis_recorded 6 0 s))
@@ -417,7 +417,7 @@ asked_moves f c d (ask.WriteVar var value) s follows = refl
 asked_moves f c d ask.Stop s follows =
     either (moved_state f) (is_stop s.mode) s _ (stop_entered c causes.by_operator s) _ refl (halted_moves f c d causes.by_operator s follows)
 asked_moves f c d ask.Restart s follows =
-    either (moved_state f) (is_stop s.mode) (warm_restarted c s) _ s _ (restarted_moves f c d s follows) refl
+    either (moved_state f) (is_stop s.mode) (state_after_warm_restart c s) _ s _ (restarted_moves f c d s follows) refl
 asked_moves f c d (ask.MonitorOn block) s follows =
     ap (λ (o : Option BlockHead). if is_some o then moved_state f (record s { monitored = Some block }) else moved_state f s) (follows.head block)
     ∙ either (moved_state f) (is_some (c.head block)) (record s { monitored = Some block }) _ s _ refl refl

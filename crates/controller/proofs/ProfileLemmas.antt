@@ -25,11 +25,11 @@ use Rattle.controller.specs.CyclePoint.{cycle_point, cycle_info, cycle_finished}
 use Rattle.controller.specs.Errors.{error_raised, error_ob_started, error_in, is_synchronous}
 use Rattle.controller.specs.Event.{entry_counted, entry_effect, state_after}
 use Rattle.controller.specs.Replay.{entry_result, state_after_entries, replay, EntriesKeepProfile, HistoriesKeepProfile}
-use Rattle.controller.specs.Requests.{stopped_if, tick_state_taken, arrival_served}
+use Rattle.controller.specs.Requests.{state_stopped_if, tick_state_taken, arrival_served}
 use Rattle.controller.specs.Serving.{ServiceResult, Returns, Passes, Stops, after_service, system_function_served}
 use Rattle.controller.specs.Settling.{after_settling, best_started, request_started, request_taken, may_start}
-use Rattle.controller.specs.Start.{before_start, restart_cleared, warm_restarted, initial_state, state_in_startup, startup_ob}
-use Rattle.controller.specs.State.{State, is_stop, diagnosis_recorded, each_diagnosed}
+use Rattle.controller.specs.Start.{before_start, restart_cleared, state_after_warm_restart, initial_state, state_in_startup, startup_ob}
+use Rattle.controller.specs.State.{State, is_stop, diagnosis_recorded, diagnoses_recorded}
 use Rattle.controller.specs.Stepping.{after_step, step_of_first, after_statement, run_starts, with_activations}
 use Rattle.controller.specs.Stopping.{stop_entered, stop_entered_at, spot_of_frame}
 use Rattle.controller.specs.Ticking.{time_passed, tick_taken, active_obs, timers_moved}
@@ -40,7 +40,7 @@ if_stays true s t profile one other = one
 if_stays false s t profile one other = other
 
 diagnosed_stays : (records : List (ℕ × ℕ)) (s : State)
-    → (each_diagnosed records s).profile ≡ s.profile
+    → (diagnoses_recorded records s).profile ≡ s.profile
 diagnosed_stays [] s = refl
 diagnosed_stays (one ∷ rest) s = diagnosed_stays rest (diagnosis_recorded one.0 one.1 s)
 
@@ -115,7 +115,7 @@ unfolding after_step
 stepped_stays code s = stepped_on_stays code s.activations s
 
 stopped_stays : (code : Code) (cause : Option ℕ) (s : State)
-    → (stopped_if code cause s).profile ≡ s.profile
+    → (state_stopped_if code cause s).profile ≡ s.profile
 stopped_stays code None s = refl
 stopped_stays code (Some cause) s = halted_stays code cause s
 
@@ -123,7 +123,7 @@ tick_state_stays : (code : Code) (c : TickState) (s : State)
     → (tick_state_taken code c s).profile ≡ s.profile
 tick_state_stays code c s =
     stopped_stays code c.passed.stop
-    (each_diagnosed c.passed.records.items (record s { sched = c.sched }))
+    (diagnoses_recorded c.passed.records.items (record s { sched = c.sched }))
     ∙ diagnosed_stays c.passed.records.items (record s { sched = c.sched })
 
 arrived_stays : (code : Code) (ob value : ℕ) (s : State)
@@ -150,8 +150,8 @@ started_stays : (begun : Option Activation) (s : State) → (state_in_startup be
 started_stays None s = refl
 started_stays (Some a) s = refl
 
-restarted_stays : (code : Code) (s : State) → (warm_restarted code s).profile ≡ s.profile
-unfolding warm_restarted
+restarted_stays : (code : Code) (s : State) → (state_after_warm_restart code s).profile ≡ s.profile
+unfolding state_after_warm_restart
 restarted_stays code s =
     started_stays (startup_ob s.profile code) (restart_cleared (diagnosis_recorded 6 0 s))
 
@@ -164,7 +164,7 @@ asked_stays code ask.Stop s =
     if_stays (is_stop s.mode) s (stop_entered code causes.by_operator s) s.profile refl
     (halted_stays code causes.by_operator s)
 asked_stays code ask.Restart s =
-    if_stays (is_stop s.mode) (warm_restarted code s) s s.profile (restarted_stays code s) refl
+    if_stays (is_stop s.mode) (state_after_warm_restart code s) s s.profile (restarted_stays code s) refl
 asked_stays code (ask.MonitorOn block) s =
     if_stays (is_some (code.head block)) (record s { monitored = Some block }) s s.profile refl
     refl

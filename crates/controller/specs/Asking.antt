@@ -11,7 +11,7 @@ use Rattle.var_access.specs.declared.Reply.TheVariants as reply
 use Rattle.var_access.specs.declared.Request.{Request}
 use Rattle.var_access.specs.declared.Request.TheVariants.{ReadVars, WriteVar, Stop, Restart, MonitorOn, MonitorOff, Diag}
 use Rattle.var_access.specs.declared.Var.{Var}
-use Rattle.controller.specs.Start.{warm_restarted}
+use Rattle.controller.specs.Start.{state_after_warm_restart}
 use Rattle.controller.specs.State.{State, is_stop}
 use Rattle.controller.specs.Stopping.{stop_entered}
 
@@ -30,7 +30,7 @@ var_written var value w =
 unfoldable pub request_effect : Code → Request → State → State
 request_effect code (WriteVar var value) s = record s { store = var_written var value s.store }
 request_effect code Stop s = if is_stop s.mode then s else stop_entered code causes.by_operator s
-request_effect code Restart s = if is_stop s.mode then warm_restarted code s else s
+request_effect code Restart s = if is_stop s.mode then state_after_warm_restart code s else s
 request_effect code (MonitorOn block) s =
     if is_some (code.head block) then record s { monitored = Some block } else s
 request_effect code MonitorOff s = record s { monitored = None }

@@ -80,5 +80,5 @@ watched_state s seen = record {
 
 -- what is watched after one more entry: it shows its monitoring record and what has changed since the last
 -- entry, and the state after it is kept
-abbrev pub watched_next : WatchedState → Option MonRecord → (after : State) → WatchedState
-watched_next w mon after = watched_state after (observed_changes mon w.outputs w.mode after)
+abbrev pub next_watched_state : WatchedState → Option MonRecord → (after : State) → WatchedState
+next_watched_state w mon after = watched_state after (observed_changes mon w.outputs w.mode after)

@@ -95,7 +95,7 @@ restart_cleared s =
 
 -- the state after a warm restart out of STOP, which is recorded: what isn't retained is cleared,
 -- and OB 100 or RUN begins
-unfoldable pub warm_restarted : Code → State → State
-warm_restarted code s =
+unfoldable pub state_after_warm_restart : Code → State → State
+state_after_warm_restart code s =
     state_in_startup (startup_ob s.profile code)
     (restart_cleared (diagnosis_recorded restart_record 0 s))

@@ -60,6 +60,6 @@ diagnosis_recorded code info s =
     }
 
 -- the state with records of diagnostics made, each a code and its detail, one after another
-abbrev pub each_diagnosed : List (ℕ × ℕ) → State → State
-each_diagnosed [] s = s
-each_diagnosed (one ∷ rest) s = each_diagnosed rest (diagnosis_recorded one.0 one.1 s)
+abbrev pub diagnoses_recorded : List (ℕ × ℕ) → State → State
+diagnoses_recorded [] s = s
+diagnoses_recorded (one ∷ rest) s = diagnoses_recorded rest (diagnosis_recorded one.0 one.1 s)

@@ -7,7 +7,7 @@ ghost use Rattle.var_access.specs.Entry.{IsRequest};
 ghost use Rattle.controller.specs.Asking.{request_reply, request_effect, done_or_no_such as answer_if, values_from as values_of, var_written};
 ghost use Rattle.controller.specs.Ready.{IsReady};
 ghost use Rattle.controller.specs.Stack.{IsActivationStack};
-ghost use Rattle.controller.specs.Start.{warm_restarted};
+ghost use Rattle.controller.specs.Start.{state_after_warm_restart};
 ghost use Rattle.controller.specs.State.{is_stop as is_stop_of};
 ghost use Rattle.controller.specs.Stopping.{stop_entered};
 ghost use Rattle.controller.specs.Views.{cpu_state};
@@ -84,7 +84,7 @@ impl Cpu {
         requires stack { IsActivationStack self.old.mode self.old.activations }
         ensures state { cpu_state self.new
             ≡ (if is_stop_of self.old.mode
-            then warm_restarted (code_of program.now.program) (cpu_state self.old)
+            then state_after_warm_restart (code_of program.now.program) (cpu_state self.old)
             else cpu_state self.old) }
         ensures stack { IsActivationStack self.new.mode self.new.activations }
     {

@@ -1,7 +1,7 @@
 //! What an entry shows.
 ghost use Rattle.std.specs.Prelude.{◌≡◌, []};
 ghost use Rattle.plc_mem.specs.Places.{HasParts};
-ghost use Rattle.controller.specs.ShownEntry.{changed_mode as mode_changed, changed_outputs, nothing_shown, watched_state, watched_next};
+ghost use Rattle.controller.specs.ShownEntry.{changed_mode as mode_changed, changed_outputs, nothing_shown, watched_state, next_watched_state};
 ghost use Rattle.controller.specs.Views.{cpu_state};
 
 use crate::cpus::Cpu;
@@ -180,7 +180,7 @@ impl Observer {
     /// Looks at the state after an entry, of which this was recorded.
     #[tactic(auto, using(crate::proofs::ObservingLemmas::outputs_have_parts))]
     pub fn look(&mut self, cpu: &Cpu, mon: Option<MonRecord>)
-        ensures { self.new ≡ watched_next self.old mon (cpu_state cpu.now) }
+        ensures { self.new ≡ next_watched_state self.old mon (cpu_state cpu.now) }
     {
         cpu.memory.law_of_areas();
         find_changes(

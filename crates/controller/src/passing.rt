@@ -3,9 +3,9 @@ ghost use Rattle.std.specs.Prelude.{◌≡◌, ◌||◌, IsTrue};
 ghost use Rattle.machine.specs.Flat.{code_of};
 ghost use Rattle.ob_sched.specs.OrganizationBlock.{is_time_of_day, is_hardware};
 ghost use Rattle.controller.specs.Ready.{IsReady};
-ghost use Rattle.controller.specs.Requests.{arrival_served, stopped_if};
+ghost use Rattle.controller.specs.Requests.{arrival_served, state_stopped_if};
 ghost use Rattle.controller.specs.Stack.{IsActivationStack};
-ghost use Rattle.controller.specs.State.{each_diagnosed};
+ghost use Rattle.controller.specs.State.{diagnoses_recorded};
 ghost use Rattle.controller.specs.Ticking.{time_passed};
 ghost use Rattle.controller.specs.Views.{cpu_state};
 
@@ -20,8 +20,8 @@ impl Cpu {
         requires ready { IsReady (code_of program.now.program) self.old.activations }
         requires stack { IsActivationStack self.old.mode self.old.activations }
         ensures state { cpu_state self.new
-            ≡ stopped_if (code_of program.now.program) passed.now.stop
-            (each_diagnosed passed.now.records.items (cpu_state self.old)) }
+            ≡ state_stopped_if (code_of program.now.program) passed.now.stop
+            (diagnoses_recorded passed.now.records.items (cpu_state self.old)) }
         ensures stack { IsActivationStack self.new.mode self.new.activations }
     {
         self.diagnose_all(passed.records.as_slice());

@@ -3,7 +3,7 @@ ghost use Rattle.std.specs.Prelude.{◌≡◌, [], true, map, IfOk};
 ghost use Rattle.machine.specs.Flat.{code_of};
 ghost use Rattle.plc_mem.specs.Blocks.{bytes_by_number};
 ghost use Rattle.plc_mem.specs.Fresh.{initial_memory};
-ghost use Rattle.controller.specs.Start.{loaded_obs as obs_loaded, warm_restarted, initial_state, state_in_startup, startup_ob};
+ghost use Rattle.controller.specs.Start.{loaded_obs as obs_loaded, state_after_warm_restart, initial_state, state_in_startup, startup_ob};
 ghost use Rattle.controller.specs.Stack.{IsActivationStack};
 ghost use Rattle.controller.specs.State.{is_stop};
 ghost use Rattle.controller.specs.Starting.{is_data_block_id as is_data_block_of, data_block_numbers_in as numbers_in_of, data_block_numbers, read_block as read_block_of};
@@ -160,12 +160,12 @@ impl Cpu {
 
     /// A warm restart out of STOP: what isn't retained is cleared, and with OB 100 STARTUP begins, else
     /// RUN.
-    #[tactic(auto, unfolding(crate::specs::Start::warm_restarted), using(crate::proofs::StandingLemmas::stop_idle))]
+    #[tactic(auto, unfolding(crate::specs::Start::state_after_warm_restart), using(crate::proofs::StandingLemmas::stop_idle))]
     pub(crate) fn restart(&mut self, program: &Loaded)
         requires stopped { is_stop self.old.mode ≡ true }
         requires stack { IsActivationStack self.old.mode self.old.activations }
         ensures state { cpu_state self.new
-            ≡ warm_restarted (code_of program.now.program) (cpu_state self.old) }
+            ≡ state_after_warm_restart (code_of program.now.program) (cpu_state self.old) }
         ensures stack { IsActivationStack self.new.mode self.new.activations }
     {
         self.diagnose(RESTART_RECORD, 0);

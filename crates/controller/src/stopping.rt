@@ -2,7 +2,7 @@
 ghost use Rattle.std.specs.Prelude.{◌≡◌};
 ghost use Rattle.machine.specs.Flat.{code_of};
 ghost use Rattle.controller.specs.Ready.{IsReady};
-ghost use Rattle.controller.specs.State.{is_stop as is_stop_of, diagnosis_recorded, each_diagnosed};
+ghost use Rattle.controller.specs.State.{is_stop as is_stop_of, diagnosis_recorded, diagnoses_recorded};
 ghost use Rattle.controller.specs.Stopping.{stop_entered, stop_entered_at};
 ghost use Rattle.controller.specs.Views.{cpu_state};
 
@@ -35,7 +35,7 @@ impl Cpu {
 
     /// Records one after another.
     pub(crate) fn diagnose_all(&mut self, records: &[(u16, u16)])
-        ensures { cpu_state self.new ≡ each_diagnosed records.now (cpu_state self.old) }
+        ensures { cpu_state self.new ≡ diagnoses_recorded records.now (cpu_state self.old) }
     {
         let mut left = records;
         while let [(code, info), rest @ ..] = left {

@@ -14,7 +14,7 @@ use Rattle.flat_code.specs.declared.operands.Passed.TheVariants as passed
 use Rattle.flat_code.specs.Codes.{size_of_op}
 use Rattle.flat_code.specs.Forms.{actual_in, direct_coding, form_of_operand, payload, payload_in}
 use Rattle.flat_code.specs.Ops.{OpData, code_byte, is_op, op_at, op_bytes, op_of}
-use Rattle.flat_code.specs.Table.{admits, takes_of}
+use Rattle.flat_code.specs.Table.{admits, forms_of}
 use Rattle.flat_code.proofs.CodingLemmas.{IsBytes}
 use Rattle.flat_code.proofs.OpLemmas.{bytes_from, nothing_past, op_takes, payload_is_op}
 
@@ -41,7 +41,7 @@ behind_form bytes = take (length bytes - 2) (drop 2 bytes)
 
 -- the op of a first byte with the operand that was read, where it takes it
 abbrev pub with_operand : ℕ → Operand × List ℕ → Option (OpData × List ℕ)
-with_operand b r = cond (admits (takes_of (b % 128)) r.0) (Some (op_of (b % 128) (leb 128 b) r.0, r.1)) None
+with_operand b r = cond (admits (forms_of (b % 128)) r.0) (Some (op_of (b % 128) (leb 128 b) r.0, r.1)) None
 
 -- its operand can be read
 pub operand_there : (bytes : List ℕ) → is_some (op_at bytes) ≡ true → is_some (payload_in (get_or bytes 1 0) (behind_form bytes)) ≡ true
@@ -103,7 +103,7 @@ is_first (b ∷ n ∷ rest) operand len are h read sized =
     by (Some r) e t is =
         let same : r.0 ≡ operand = cc in
         let long : length (code_byte (b % 128) (leb 128 b) ∷ form_of_operand operand ∷ payload operand) ≡ len = omega (arith, sized) in
-        let taken : admits (takes_of (b % 128)) operand ≡ true = ap (admits (takes_of (b % 128))) (sym same) ∙ test_is_met (admits (takes_of (b % 128)) r.0) (op_of (b % 128) (leb 128 b) r.0, r.1) t in
+        let taken : admits (forms_of (b % 128)) operand ≡ true = ap (admits (forms_of (b % 128))) (sym same) ∙ test_is_met (admits (forms_of (b % 128)) r.0) (op_of (b % 128) (leb 128 b) r.0, r.1) t in
         record {
           op = payload_is_op (b % 128) n rest operand r.1 (λ i. are (suc (suc i))) (e ∙ ap (λ (z : Operand). Some (z, r.1)) same) (omega arith) taken;
           is = rw (e, same, taken) (ap (λ (n : ℕ). Some (op_of (b % 128) (leb 128 b) operand, n)) long);

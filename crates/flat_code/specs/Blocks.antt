@@ -26,7 +26,7 @@ use Rattle.flat_code.specs.declared.operations.Operation.TheVariants as operatio
 use Rattle.flat_code.specs.declared.operations.RelayOperation.TheVariants as relay
 use Rattle.plc_base.specs.Kinds.{kind_number}
 use Rattle.plc_base.specs.declared.blocks.BlockKind.TheVariants as kinds
-use Rattle.flat_code.specs.Table.{takes_of, has_memory_width}
+use Rattle.flat_code.specs.Table.{forms_of, has_memory_width}
 
 -- what a CALL sees of a block: kind and number, the bytes of an instance, the parameters
 pub record BlockSignature : Type 0 where
@@ -139,7 +139,7 @@ is_bad_place environment a w byte bit = is_odd_bit w bit || is_past_locals envir
 
 -- whether the instruction of an op doesn't have a width in memory
 abbrev pub lacks_width : OpData → Width → Bool
-lacks_width op w = not (has_memory_width (takes_of op.code) w)
+lacks_width op w = not (has_memory_width (forms_of op.code) w)
 
 -- whether an op code is one of the instructions that write their operand: T, =, S, R, FP, FN, whose
 -- codes stand together

@@ -61,7 +61,7 @@ overlong_statement count at (op ∷ ops) =
     if count == most_ops then Some at
     else overlong_statement (if op.last then 0 else suc count) (at + size_of_op op) ops
 
--- the first of two numbers that were searched one after the other, if it was found, else the second
+-- the first of two numbers where there is one, else the second
 abbrev pub first_found : Option ℕ → Option ℕ → Option ℕ
 first_found None other = other
 first_found (Some at) other = Some at

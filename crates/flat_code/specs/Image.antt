@@ -17,7 +17,7 @@ use Rattle.flat_code.specs.Records.{BlockRecord, NameRecord, ImageRecords}
 use Rattle.flat_code.specs.Faults.{field_fault, name_fault}
 use Rattle.flat_code.specs.Stamps.{version_number, profile_field_of, stamp_of}
 use Rattle.flat_code.specs.declared.stamps.Stamp.{Stamp}
-use Rattle.flat_code.specs.Layout.{ReadingNote, Faulty, Whole, AllBlocks, Cursor, ReadResult, FieldLayout, reading_ended, bind_reading, field_layout, chain_layout, checked_layout, located_layout, list_layout, seen_as, noted_layout}
+use Rattle.flat_code.specs.Layout.{ReadingNote, Faulty, Whole, AllBlocks, Cursor, ReadResult, FieldLayout, reading_ended, bind_reading, field_layout, chain_layout, checked_layout, located_layout, list_layout, layout_seen_as, noted_layout}
 use Rattle.flat_code.specs.Codes.{code_bytes, code_layout, if_checked}
 
 -- the fault of a field that is checked later, or not at all: None, whatever number it has
@@ -129,7 +129,7 @@ fields_of_parameter p = record {
 -- the six bytes of a parameter as its record
 unfoldable pub parameter_layout : ℕ → ℕ → FieldLayout ParameterRecord
 parameter_layout kind instance =
-    seen_as
+    layout_seen_as
     (λ r. parameter_of_fields (parameter_fields r))
     (λ p. parameter_row (fields_of_parameter p))
     (parameter_rows kind instance)
@@ -228,7 +228,7 @@ head_rows before =
 -- the head of a code block, sixteen bytes, behind a block of kind and number `before` (0 and 0 for
 -- none)
 unfoldable pub head_layout : ℕ × ℕ → FieldLayout Head
-head_layout before = seen_as head_of_row row_of_head (head_rows before)
+head_layout before = layout_seen_as head_of_row row_of_head (head_rows before)
 
 -- the state behind a parameter: the one before it, since parameters are checked one by one
 abbrev pub same_state : ℕ → ParameterRecord → ℕ
@@ -352,7 +352,7 @@ parts_of_block b = record {
 unfoldable pub plain_block :
     (with_code_faults : Bool) → (before : ℕ × ℕ) → (start : ℕ) → FieldLayout BlockRecord
 plain_block with_code_faults before start =
-    seen_as
+    layout_seen_as
     (λ r. block_of_parts (parts_of_block_row r))
     (λ b. row_of_block_parts (parts_of_block b))
     (block_rows with_code_faults before start)
@@ -472,7 +472,7 @@ fields_of_data d = record {
 -- bytes in all data blocks before
 unfoldable pub data_block_layout : ℕ × ℕ → FieldLayout DataBlock
 data_block_layout before =
-    seen_as
+    layout_seen_as
     (λ r. data_of_fields (data_fields r))
     (λ d. data_row (fields_of_data d))
     (data_rows before)
@@ -568,7 +568,7 @@ fields_of_name n = record {
 -- for none)
 unfoldable pub name_record : List ℕ → FieldLayout NameRecord
 name_record before =
-    seen_as
+    layout_seen_as
     (λ r. name_of_fields (name_fields r))
     (λ n. name_row (fields_of_name n))
     (name_rows before)
@@ -619,7 +619,7 @@ count_rows =
 
 -- the counts of an image, the last eight bytes of its header
 unfoldable pub counts_layout : FieldLayout RecordCounts
-counts_layout = seen_as counts_of_row row_of_counts count_rows
+counts_layout = layout_seen_as counts_of_row row_of_counts count_rows
 
 -- the n code blocks of an image; without code faults no fault 9, and fault 5 only for bytes that
 -- begin no op
@@ -707,7 +707,7 @@ parts_of_records r = record {
 -- 5 only for bytes that begin no op
 unfoldable pub records_layout : (with_code_faults : Bool) → FieldLayout ImageRecords
 records_layout with_code_faults =
-    seen_as
+    layout_seen_as
     (λ r. records_of_parts (parts_of_body_row r))
     (λ r. row_of_body_parts (parts_of_records r))
     (body_rows with_code_faults)
@@ -823,7 +823,7 @@ records_of p = record {
 -- no fault 9, and fault 5 only for bytes that begin no op
 unfoldable pub body_layout : (with_code_faults : Bool) → FieldLayout Program
 body_layout with_code_faults =
-    seen_as program_of_records records_of (records_layout with_code_faults)
+    layout_seen_as program_of_records records_of (records_layout with_code_faults)
 
 -- the magic of an image, the bytes `S7FB`, else fault 1. The front of an image has the fields magic
 -- u32, version u16, profile u16, total length u32
@@ -878,7 +878,7 @@ front_rows =
 -- the front of an image, its first twelve bytes; whether the total length is right is tested by
 -- `read_cut_off`
 unfoldable pub front_layout : FieldLayout Front
-front_layout = seen_as front_of_row row_of_front front_rows
+front_layout = layout_seen_as front_of_row row_of_front front_rows
 
 -- how many bytes the front of an image has: 4 magic, 2 version, 2 profile, 4 total length
 abbrev pub front_size : ℕ

@@ -148,8 +148,8 @@ list_layout l next s n = record {
 
 -- a layout whose values are of another type, with the bytes and faults of the layout `l`: `to`
 -- makes such a value of one of `l`, `from` the one of `l` that is spelled
-abbrev pub seen_as : {A B : Type 0} → (A → B) → (B → A) → FieldLayout A → FieldLayout B
-seen_as to from l = record {
+abbrev pub layout_seen_as : {A B : Type 0} → (A → B) → (B → A) → FieldLayout A → FieldLayout B
+layout_seen_as to from l = record {
   spell = λ y. l.spell (from y);
   good = λ y. l.good (from y);
   read = λ cur. bind_reading (l.read cur) (λ x end. reading_given (to x) end);

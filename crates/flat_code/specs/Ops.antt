@@ -4,7 +4,7 @@ use Rattle.std.specs.Prelude.{◌≡◌, ◌<◌, ◌≤◌, length, drop, Resul
 use Rattle.std.specs.Option.{option_and_then}
 use Rattle.flat_code.specs.declared.operands.Operand.{Operand}
 use Rattle.flat_code.specs.declared.operations.Operation.{Operation}
-use Rattle.flat_code.specs.Table.{takes_of, takes_of_operation, admits}
+use Rattle.flat_code.specs.Table.{forms_of, forms_of_operation, admits}
 use Rattle.flat_code.specs.Forms.{form_of_operand, payload_fits, payload, payload_in}
 
 -- an op, of which a statement has one or more
@@ -22,12 +22,12 @@ op_of code last operand = record { code = code; last = last; operand = operand }
 
 -- whether an op code (below 128) takes an operand, whose values fit their payload
 unfoldable pub is_op : ℕ → Operand → Bool
-is_op code operand = nat_lt code 128 && admits (takes_of code) operand && payload_fits operand
+is_op code operand = nat_lt code 128 && admits (forms_of code) operand && payload_fits operand
 
 -- whether an operation takes the operand, so that the two make an op
 unfoldable pub is_instruction : Operation → Operand → Bool
 is_instruction operation operand =
-    admits (takes_of_operation operation) operand && payload_fits operand
+    admits (forms_of_operation operation) operand && payload_fits operand
 
 -- an op that the tables have: a code below 16#80, a form that it takes, values that fit the payload
 abbrev pub IsOp : OpData → Type 0
@@ -45,7 +45,7 @@ op_bytes op = code_byte op.code op.last ∷ form_of_operand op.operand ∷ paylo
 -- the end mark, the others are the op code
 unfoldable pub op_at : List ℕ → Option (OpData × List ℕ)
 op_at (b ∷ n ∷ rest) =
-    option_and_then (λ r. if admits (takes_of (b % 128)) r.0
+    option_and_then (λ r. if admits (forms_of (b % 128)) r.0
     then Some (record { code = b % 128; last = nat_le 128 b; operand = r.0 }, r.1) else None)
     (payload_in n rest)
 op_at _ = None

@@ -6,7 +6,7 @@ use Rattle.flat_code.specs.Programs.{DataBlock, Program}
 use Rattle.flat_code.specs.declared.stamps.Stamp.{Stamp}
 use Rattle.flat_code.specs.Records.{BlockRecord, NameRecord}
 use Rattle.flat_code.specs.declared.image_fields.ParameterRecord.{ParameterRecord}
-use Rattle.flat_code.specs.Layout.{ReadingNote, Faulty, AllBlocks, Cursor, ReadResult, FieldLayout, reading_ended, reading_given, go_on, bind_reading, fault_note, field_of, field_layout, chain_layout, checked_layout, located_layout, read_many, list_layout, seen_as, noted_layout, faults_in}
+use Rattle.flat_code.specs.Layout.{ReadingNote, Faulty, AllBlocks, Cursor, ReadResult, FieldLayout, reading_ended, reading_given, go_on, bind_reading, fault_note, field_of, field_layout, chain_layout, checked_layout, located_layout, read_many, list_layout, layout_seen_as, noted_layout, faults_in}
 use Rattle.flat_code.specs.Codes.{ops_from, stop_at, read_ops, read_code, code_layout}
 use Rattle.flat_code.specs.Image.{no_fault, plain_u16, plain_u32, zero_u8, zero_u16, width_field, bytes_coding, section_field, parameter_byte, parameter_bit, parameter_rows, parameter_fields, parameter_row, parameter_of_fields, fields_of_parameter, parameter_layout, kind_field, parameter_count_layout, block_number_layout, local_length_layout, instance_bytes_layout, Head, head_of_row, row_of_head, head_rows, head_layout, same_state, parameters_layout, line_after, line_field, lines_layout, code_and_lines, BlockRow, parts_of_block_row, row_of_block_parts, block_rows, block_of_parts, parts_of_block, plain_block, whole_note, code_block_at, code_block_layout, after_block, data_number_layout, instance_field, data_length_layout, contents_layout, data_rows, data_fields, data_row, data_of_fields, fields_of_data, data_block_layout, after_data, name_len, name_bytes, name_area, name_bit, name_rows, name_fields, name_row, name_of_fields, fields_of_name, name_record, after_name, data_count, RecordCounts, counts_of_row, row_of_counts, count_rows, counts_layout, code_blocks_layout, plain_data_blocks, data_blocks_layout, names_layout, parts_of_body_row, row_of_body_parts, body_rows, records_of_parts, parts_of_records, records_layout, program_of_records, records_of, body_layout, magic_field, version_field, profile_field, Front, front_of_row, row_of_front, front_rows, front_layout, front_size, stamp_in, end_layout, read_cut_off, read_by, read_image}
 use Rattle.image_file.proofs.LayoutLemmas.{no_faults, at_place}
@@ -44,7 +44,7 @@ chain_sound {A = A} {B = B} l m p q = record { ends = λ cur. bind_ends (l.read 
 checked_sound : {A : Type 0} (at : ℕ) (fault : Option ℕ) (l : FieldLayout A) → Sound A l → Sound A (checked_layout at fault l)
 checked_sound {A = A} at fault l p = record { ends = λ cur e clean. p.ends cur e (no_faults (fault_note at fault) (l.read cur).notes clean).1 }
 
-seen_sound : {A B : Type 0} (to : A → B) (from : B → A) (l : FieldLayout A) → Sound A l → Sound B (seen_as to from l)
+seen_sound : {A B : Type 0} (to : A → B) (from : B → A) (l : FieldLayout A) → Sound A l → Sound B (layout_seen_as to from l)
 seen_sound {A = A} {B = B} to from l p = record { ends = λ cur. bind_ends (l.read cur) (λ x end. reading_given (to x) end) (p.ends cur) (λ x end. given_ends (to x) end) }
 
 noted_ends : {A : Type 0} (notes : List ReadingNote) (x : A) (end : Cursor) → Ends {A = A} (record { notes = notes; found = Some (x, end) })

@@ -12,7 +12,7 @@ use Rattle.flat_code.specs.PlacedOps.{PlacedOp, ops_placed, code_places, is_empt
 use Rattle.flat_code.specs.Kinds.{jump_number}
 use Rattle.flat_code.specs.declared.kinds.JumpOperation.TheVariants as jump
 use Rattle.flat_code.specs.Blocks.{are_same_codes, are_other_brackets, target_fault, is_bad_list, operand_fault, leads_to_target}
-use Rattle.image_file.specs.VerifiedProgram.{placed_at, IsVerifiedOp, Lands}
+use Rattle.image_file.specs.VerifiedProgram.{placed_op_at, IsVerifiedOp, Lands}
 use Rattle.image_file.proofs.VerifiedLemmas.{option_by_test, none_if, empty_next, op_long, place_offset, op_none, environment_in, brackets_right}
 
 start_none : (from : ℕ) (begin : Bool) (brackets : List OpenBracket) (zones : List ℕ) (ops : List OpData) (at : ℕ) → at < from → statement_start_at (statement_starts_from from begin brackets zones ops) at ≡ None
@@ -38,7 +38,7 @@ start_past from begin brackets zones ops at s found = by (cases_lt at from)
 -- a statement of a block as the op that begins it
 record IsStart (qs : List PlacedOp) (at : ℕ) (s : StatementStart) : Type 0 where
   there : PlacedOp
-  place : placed_at at qs ≡ Some there
+  place : placed_op_at at qs ≡ Some there
   first : is_empty_list there.before ≡ true
   codes_are : codes_of_few_brackets there.brackets ≡ s.codes
   zones_are : length there.zones ≡ s.zones

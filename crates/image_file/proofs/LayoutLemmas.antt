@@ -5,7 +5,7 @@ use Rattle.std.proofs.lemmas.Bool.{and_parts, and_from}
 use Rattle.std.proofs.lemmas.Option.{same_Some}
 use Rattle.flat_code.specs.Coding.{Coding}
 use Rattle.flat_code.proofs.CodingLemmas.{IsBytes, BeginsWith, IsExact}
-use Rattle.flat_code.specs.Layout.{ReadingNote, Faulty, Whole, AllBlocks, Cursor, ReadResult, FieldLayout, reading_given, go_on, bind_reading, fault_note, is_fine, field_of, field_layout, chain_layout, checked_layout, located_layout, spell_many, good_many, read_many, list_layout, seen_as, noted_layout, faults_in}
+use Rattle.flat_code.specs.Layout.{ReadingNote, Faulty, Whole, AllBlocks, Cursor, ReadResult, FieldLayout, reading_given, go_on, bind_reading, fault_note, is_fine, field_of, field_layout, chain_layout, checked_layout, located_layout, spell_many, good_many, read_many, list_layout, layout_seen_as, noted_layout, faults_in}
 
 -- ---- faults of notes
 
@@ -144,7 +144,7 @@ checked_laid {A = A} at fault l exact = record {
 
 -- ---- the same bytes for another type
 
-pub seen_laid : {A B : Type 0} (to : A → B) (from : B → A) (l : FieldLayout A) → ((x : A) → l.good x ≡ true → from (to x) ≡ x) → ((y : B) → l.good (from y) ≡ true → to (from y) ≡ y) → IsLaidOut A l → IsLaidOut B (seen_as to from l)
+pub seen_laid : {A B : Type 0} (to : A → B) (from : B → A) (l : FieldLayout A) → ((x : A) → l.good x ≡ true → from (to x) ≡ x) → ((y : B) → l.good (from y) ≡ true → to (from y) ≡ y) → IsLaidOut A l → IsLaidOut B (layout_seen_as to from l)
 seen_laid {A = A} {B = B} to from l there back exact = record {
   again = λ y at rest good.
       let one = exact.again (from y) at rest good in

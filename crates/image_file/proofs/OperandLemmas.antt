@@ -21,7 +21,7 @@ use Rattle.flat_code.specs.Records.{section_in}
 use Rattle.flat_code.specs.Programs.{CodeBlock, Program}
 use Rattle.flat_code.specs.Image.{record_of_param, record_of_block}
 use Rattle.flat_code.specs.Loading.{lens_of}
-use Rattle.flat_code.specs.Table.{takes_of, has_memory_width}
+use Rattle.flat_code.specs.Table.{forms_of, has_memory_width}
 use Rattle.flat_code.specs.PlacedOps.{PlacedOp, starts_of_statements, begins_its_statement, last_op}
 use Rattle.flat_code.specs.Blocks.{signature_of, CalleeSignature, block_with, callee_among, is_odd_bit, is_past_locals, is_bad_place, lacks_width, writes_operand, parameter_meant, lacks_own_parameter, is_in_parameter, is_in_db, is_above, pass_before, is_stray_pass, is_bad_actual, misfits_index, misfits_callee, misfits_call, are_all_passed, is_bad_instance, is_bad_call, seven_if, operand_fault, call_fault_among}
 use Rattle.image_file.specs.Readers.{is_same_id, block_by_id}
@@ -87,15 +87,15 @@ fits_operand : (p : Program) (b : CodeBlock) (q : PlacedOp) (o : Operand) → op
 fits_operand p b q (operand.Direct a w byte bit) e =
     let s = or_parts (lacks_width q.op w) (is_bad_place (environment_in p b) a w byte bit) (seven_none _ e) in
     let f = fits_place p b a w byte bit s.1 in
-    (not-false (has_memory_width (takes_of q.op.code) w) s.0, f.0, f.1)
-fits_operand p b q (operand.ByMemory a w from byte) e = not-false (has_memory_width (takes_of q.op.code) w) (seven_none _ e)
-fits_operand p b q (operand.ByRegister a w register bits) e = not-false (has_memory_width (takes_of q.op.code) w) (seven_none _ e)
+    (not-false (has_memory_width (forms_of q.op.code) w) s.0, f.0, f.1)
+fits_operand p b q (operand.ByMemory a w from byte) e = not-false (has_memory_width (forms_of q.op.code) w) (seven_none _ e)
+fits_operand p b q (operand.ByRegister a w register bits) e = not-false (has_memory_width (forms_of q.op.code) w) (seven_none _ e)
 fits_operand p b q (operand.Parameter index w) e =
     let own = parameter_meant (environment_in p b) index in
     let s = or_parts (lacks_width q.op w || lacks_own_parameter own w) (writes_operand q.op.code && is_in_parameter own) (seven_none _ e) in
     let t = or_parts (lacks_width q.op w) (lacks_own_parameter own w) s.0 in
     let h = has_param p b index w t.1 in
-    (not-false (has_memory_width (takes_of q.op.code) w) t.0, h.param, h.has, not_written q.op.code h.param.section (ap (λ (z : Option ParameterRecord). writes_operand q.op.code && is_in_parameter z) (sym h.own_is) ∙ s.1))
+    (not-false (has_memory_width (forms_of q.op.code) w) t.0, h.param, h.has, not_written q.op.code h.param.section (ap (λ (z : Option ParameterRecord). writes_operand q.op.code && is_in_parameter z) (sym h.own_is) ∙ s.1))
 fits_operand p b q operand.Nothing e = tt
 fits_operand p b q (operand.Literal value) e = tt
 fits_operand p b q (operand.Numbered kind number) e = tt

@@ -20,7 +20,7 @@ use Rattle.flat_code.specs.Image.{plain_u16, zero_u16, parameter_count_layout, b
 use Rattle.flat_code.specs.declared.image_fields.OpenBracket.{OpenBracket}
 use Rattle.flat_code.specs.PlacedOps.{PlacedOp, ops_placed, code_places, brackets_after, zones_behind_op, before_next}
 use Rattle.flat_code.proofs.PartLemmas.{all_of_blocks, chain_parts, dword_fits, good_head, unless_fine, word_fits}
-use Rattle.image_file.specs.VerifiedProgram.{placed_at, BlockBegins, BlockIsRight}
+use Rattle.image_file.specs.VerifiedProgram.{placed_op_at, BlockBegins, BlockIsRight}
 use Rattle.image_file.specs.Readers.{is_same_id, block_by_id}
 use Rattle.image_file.specs.Tables.{AreSmall, slot_of, HaveSlots}
 use Rattle.image_file.proofs.ImageLemmas.{good_records, good_block_of, head_kind}
@@ -195,7 +195,7 @@ right_at (c ∷ bs) b id h found = by (is_same_id c.id id) found (λ e. right_at
 
 -- ---- the ops and the beginning of a block
 
-pub op_right : (from : ℕ) (brackets : List OpenBracket) (zones : List ℕ) (before ops : List OpData) (at : ℕ) (q : PlacedOp) → are_ops ops ≡ true → placed_at at (ops_placed from brackets zones before ops) ≡ Some q → is_op q.op.code q.op.operand ≡ true
+pub op_right : (from : ℕ) (brackets : List OpenBracket) (zones : List ℕ) (before ops : List OpData) (at : ℕ) (q : PlacedOp) → are_ops ops ≡ true → placed_op_at at (ops_placed from brackets zones before ops) ≡ Some q → is_op q.op.code q.op.operand ≡ true
 op_right from brackets zones before [] at q right found = absurd cc
 op_right from brackets zones before (o ∷ ops) at q right found =
     let parts = and_parts (is_op o.code o.operand) (are_ops ops) right in
@@ -205,7 +205,7 @@ op_right from brackets zones before (o ∷ ops) at q right found =
     here = record { at = from; brackets = brackets; zones = zones; before = before; op = o; rest = ops }
 
     behind : Option PlacedOp
-    behind = placed_at at (ops_placed (from + size_of_op o) (brackets_after from o.code brackets) (zones_behind_op from o.code zones) (before_next o before) ops)
+    behind = placed_op_at at (ops_placed (from + size_of_op o) (brackets_after from o.code brackets) (zones_behind_op from o.code zones) (before_next o before) ops)
 
     by : (t : Bool) → cond t (Some here) behind ≡ Some q → is_op o.code o.operand ≡ true → (behind ≡ Some q → is_op q.op.code q.op.operand ≡ true) → is_op q.op.code q.op.operand ≡ true
     by true e is more = subst (λ (z : PlacedOp). is_op z.op.code z.op.operand ≡ true) (same_Some here q e) is
@@ -215,7 +215,7 @@ pub code_begins : (b : CodeBlock) (ops : List OpData) → b.code ≡ ops → end
 code_begins b [] is ended = absurd cc
 code_begins b (o ∷ ops) is ended =
     let first : PlacedOp = record { at = 0; brackets = []; zones = []; before = []; op = o; rest = ops } in
-    let there : placed_at 0 (code_places b.code) ≡ Some first = rw is refl in
+    let there : placed_op_at 0 (code_places b.code) ≡ Some first = rw is refl in
     record { first = first; place = there; offset = refl; statement = refl; closed = refl; no_zones = refl }
 
 pub block_right : (b : CodeBlock) → IsRightCode b → BlockIsRight b

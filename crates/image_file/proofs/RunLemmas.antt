@@ -2,7 +2,7 @@
 use Rattle.std.proofs.Common.{◌≡◌, ℕ, suc, ◌+◌, ◌-◌, ◌<◌, ◌≤◌, List, [], ◌∷◌, ◌++◌, map, Option, Some, None, Err, refl, sym, ap, ◌∙◌, append_assoc, arith, true}
 use Rattle.std.proofs.lemmas.List.{append-nil, map-append}
 use Rattle.flat_code.specs.Image.{code_block_at, plain_block, code_block_layout, whole_note, after_block}
-use Rattle.flat_code.specs.Layout.{ReadingNote, Faulty, Whole, AllBlocks, Cursor, ReadResult, FieldLayout, reading_ended, reading_given, go_on, bind_reading, chain_layout, checked_layout, located_layout, seen_as, noted_layout, fault_note, read_many, list_layout, faults_in}
+use Rattle.flat_code.specs.Layout.{ReadingNote, Faulty, Whole, AllBlocks, Cursor, ReadResult, FieldLayout, reading_ended, reading_given, go_on, bind_reading, chain_layout, checked_layout, located_layout, layout_seen_as, noted_layout, fault_note, read_many, list_layout, faults_in}
 use Rattle.flat_code.specs.Programs.{DataBlock}
 use Rattle.flat_code.specs.Records.{BlockRecord}
 use Rattle.image_file.specs.declared.faults.LoadFault.{LoadFault}
@@ -98,7 +98,7 @@ more_done {S = S} {A = A} l next s count i cur least xs all le so_far =
 -- ---- the other layouts in one pass
 
 pub run_seen : {A B : Type 0} (to : A → B) (from : B → A) (l : FieldLayout A) (cur : Cursor) (log : Log)
-    → run_layout (seen_as to from l) cur log ≡ then_run (run_layout l cur log) (λ x end mid. Continues (to x) end mid)
+    → run_layout (layout_seen_as to from l) cur log ≡ then_run (run_layout l cur log) (λ x end mid. Continues (to x) end mid)
 unfolding run_layout ran_of log_after with_faults
 run_seen {A = A} {B = B} to from l cur log = go_runs (l.read cur).notes (l.read cur).found (λ x end. reading_given (to x) end) (λ x end mid. Continues (to x) end mid) log (λ x end mid. refl)
 
@@ -171,10 +171,10 @@ pub chain_breaks : {A B : Type 0} (l : FieldLayout A) (m : A → FieldLayout B) 
 chain_breaks {A = A} {B = B} l m x next cur mid last log p q =
     sym (run_chain l m cur log ∙ sym (ap (λ (r : RunResult A). then_run r (λ x next mid. then_run (run_layout (m x) next mid) (λ y end last. Continues (x, y) end last))) p) ∙ sym (ap (λ (r : RunResult B). then_run r (λ y end last. Continues (x, y) end last)) q))
 
-pub seen_goes : {A B : Type 0} (to : A → B) (from : B → A) (l : FieldLayout A) (x : A) (end cur : Cursor) (mid log : Log) → Continues x end mid ≡ run_layout l cur log → Continues (to x) end mid ≡ run_layout (seen_as to from l) cur log
+pub seen_goes : {A B : Type 0} (to : A → B) (from : B → A) (l : FieldLayout A) (x : A) (end cur : Cursor) (mid log : Log) → Continues x end mid ≡ run_layout l cur log → Continues (to x) end mid ≡ run_layout (layout_seen_as to from l) cur log
 seen_goes {A = A} {B = B} to from l x end cur mid log p = sym (run_seen to from l cur log ∙ sym (ap (λ (r : RunResult A). then_run r (λ x end mid. Continues (to x) end mid)) p))
 
-pub seen_ends : {A B : Type 0} (to : A → B) (from : B → A) (l : FieldLayout A) (cur : Cursor) (mid log : Log) → ◌≡◌ {A = RunResult A} (Stops mid) (run_layout l cur log) → ◌≡◌ {A = RunResult B} (Stops mid) (run_layout (seen_as to from l) cur log)
+pub seen_ends : {A B : Type 0} (to : A → B) (from : B → A) (l : FieldLayout A) (cur : Cursor) (mid log : Log) → ◌≡◌ {A = RunResult A} (Stops mid) (run_layout l cur log) → ◌≡◌ {A = RunResult B} (Stops mid) (run_layout (layout_seen_as to from l) cur log)
 seen_ends {A = A} {B = B} to from l cur mid log p = sym (run_seen to from l cur log ∙ sym (ap (λ (r : RunResult A). then_run r (λ x end mid. Continues (to x) end mid)) p))
 
 pub go_read : {A B : Type 0} (r : ReadResult A) (f : A → Cursor → ReadResult B) (log : Log) → run_of_read (bind_reading r f) log ≡ then_run (run_of_read r log) (λ x cur mid. run_of_read (f x cur) mid)

@@ -17,7 +17,7 @@ use Rattle.flat_code.specs.Loading.{AreVerified, lens_of, environment_of_block}
 use Rattle.flat_code.specs.PlacedOps.{PlacedOp, ops_placed, code_places, op_placed, line_placed, begins_its_statement, is_empty_list, most_brackets, most_zones, StatementStart, starts_of_statements, is_opening, outer_brackets, brackets_after, zones_behind_op, open_behind, zones_left, before_next}
 use Rattle.flat_code.specs.Blocks.{Environment, operand_fault, call_fault, mark_fault, bracket_fault, zone_fault, at_offset, op_faults, faults_over, open_faults, open_zone_faults, block_faults, prepares_statement, seven_if}
 use Rattle.image_file.specs.Readers.{is_same_id, block_by_id}
-use Rattle.image_file.specs.VerifiedProgram.{placed_at, IsVerifiedOp, HasNext, BracketsAreRight, ZonesAreRight, StatementIsRight, HasLine}
+use Rattle.image_file.specs.VerifiedProgram.{placed_op_at, IsVerifiedOp, HasNext, BracketsAreRight, ZonesAreRight, StatementIsRight, HasLine}
 
 -- ---- no fault of a block is none of its ops
 
@@ -58,11 +58,11 @@ no_fault a ss start q none =
       zone = none_here at (zone_fault q.op.code q.zones) w.1;
     }
 
-each : (a : Environment) (ss : List StatementStart) (start : ℕ) (rest : List PlacedOp) (at : ℕ) (q : PlacedOp) → faults_over a ss start rest ≡ [] → placed_at at rest ≡ Some q → op_faults a ss start q ≡ []
+each : (a : Environment) (ss : List StatementStart) (start : ℕ) (rest : List PlacedOp) (at : ℕ) (q : PlacedOp) → faults_over a ss start rest ≡ [] → placed_op_at at rest ≡ Some q → op_faults a ss start q ≡ []
 each a ss start [] at q none found = absurd cc
 each a ss start (p ∷ rest) at q none found =
     let n = nil_parts (op_faults a ss start p) (faults_over a ss start rest) none in
-    option_by_test (eqb p.at at) p (placed_at at rest) q found (op_faults a ss start q ≡ [])
+    option_by_test (eqb p.at at) p (placed_op_at at rest) q found (op_faults a ss start q ≡ [])
     (λ t e. subst (λ (z : PlacedOp). op_faults a ss start z ≡ []) e n.0)
     (λ f e. each a ss start rest at q n.1 e)
 
@@ -106,7 +106,7 @@ op_none p b q h = no_fault (environment_in p b) (starts_of_statements b.code) 0 
 
 -- ---- the readers' op is the one in its place
 
-pub read_at : (from : ℕ) (brackets : List OpenBracket) (zones : List ℕ) (before ops : List OpData) (at : ℕ) (op : OpData) (next : ℕ) → op_placed from ops at ≡ Some (op, next) → (q : PlacedOp) × (placed_at at (ops_placed from brackets zones before ops) ≡ Some q) × (q.at ≡ at) × (q.op ≡ op) × (next ≡ at + size_of_op op)
+pub read_at : (from : ℕ) (brackets : List OpenBracket) (zones : List ℕ) (before ops : List OpData) (at : ℕ) (op : OpData) (next : ℕ) → op_placed from ops at ≡ Some (op, next) → (q : PlacedOp) × (placed_op_at at (ops_placed from brackets zones before ops) ≡ Some q) × (q.at ≡ at) × (q.op ≡ op) × (next ≡ at + size_of_op op)
 read_at from brackets zones before [] at op next e = absurd cc
 read_at from brackets zones before (o ∷ ops) at op next e = by (eqb from at) refl e (λ h. read_at (from + size_of_op o) (brackets_after from o.code brackets) (zones_behind_op from o.code zones) (before_next o before) ops at op next h)
   where
@@ -114,8 +114,8 @@ read_at from brackets zones before (o ∷ ops) at op next e = by (eqb from at) r
     here = record { at = from; brackets = brackets; zones = zones; before = before; op = o; rest = ops }
 
     by : (b : Bool) → eqb from at ≡ b → cond b (Some (o, from + size_of_op o)) (op_placed (from + size_of_op o) ops at) ≡ Some (op, next)
-        → (op_placed (from + size_of_op o) ops at ≡ Some (op, next) → (q : PlacedOp) × (placed_at at (ops_placed (from + size_of_op o) (brackets_after from o.code brackets) (zones_behind_op from o.code zones) (before_next o before) ops) ≡ Some q) × (q.at ≡ at) × (q.op ≡ op) × (next ≡ at + size_of_op op))
-        → (q : PlacedOp) × (cond b (Some here) (placed_at at (ops_placed (from + size_of_op o) (brackets_after from o.code brackets) (zones_behind_op from o.code zones) (before_next o before) ops)) ≡ Some q) × (q.at ≡ at) × (q.op ≡ op) × (next ≡ at + size_of_op op)
+        → (op_placed (from + size_of_op o) ops at ≡ Some (op, next) → (q : PlacedOp) × (placed_op_at at (ops_placed (from + size_of_op o) (brackets_after from o.code brackets) (zones_behind_op from o.code zones) (before_next o before) ops) ≡ Some q) × (q.at ≡ at) × (q.op ≡ op) × (next ≡ at + size_of_op op))
+        → (q : PlacedOp) × (cond b (Some here) (placed_op_at at (ops_placed (from + size_of_op o) (brackets_after from o.code brackets) (zones_behind_op from o.code zones) (before_next o before) ops)) ≡ Some q) × (q.at ≡ at) × (q.op ≡ op) × (next ≡ at + size_of_op op)
     by true t f more =
         let s = same_Some (o, from + size_of_op o) (op, next) f in
         let same : o ≡ op = ap (λ (z : OpData × ℕ). z.0) s in
@@ -131,14 +131,14 @@ unfolding size_of_op op_bytes
 op_long op = omega arith
 
 -- no op of code begins before it
-not_before : (from : ℕ) (brackets : List OpenBracket) (zones : List ℕ) (before ops : List OpData) (at : ℕ) → at < from → placed_at at (ops_placed from brackets zones before ops) ≡ None
+not_before : (from : ℕ) (brackets : List OpenBracket) (zones : List ℕ) (before ops : List OpData) (at : ℕ) → at < from → placed_op_at at (ops_placed from brackets zones before ops) ≡ None
 not_before from brackets zones before [] at lt = refl
 not_before from brackets zones before (op ∷ ops) at lt =
     let other : eqb from at ≡ false = ne_eqb from at (λ e. omega (arith, e, lt)) in
     let p = op_long op in
     rw other (not_before (from + size_of_op op) (brackets_after from op.code brackets) (zones_behind_op from op.code zones) (before_next op before) ops at (omega (arith, lt, p)))
 
-place_is : (from : ℕ) (brackets : List OpenBracket) (zones : List ℕ) (before ops : List OpData) (at : ℕ) (q : PlacedOp) → placed_at at (ops_placed from brackets zones before ops) ≡ Some q → from ≤ at
+place_is : (from : ℕ) (brackets : List OpenBracket) (zones : List ℕ) (before ops : List OpData) (at : ℕ) (q : PlacedOp) → placed_op_at at (ops_placed from brackets zones before ops) ≡ Some q → from ≤ at
 place_is from brackets zones before ops at q found = by (cases_lt at from)
   where
     by : (at < from) ⊎ (from ≤ at) → from ≤ at
@@ -148,16 +148,16 @@ place_is from brackets zones before ops at q found = by (cases_lt at from)
 -- behind an op stands the next one of its list
 abbrev pub NextIn : List PlacedOp → PlacedOp → List OpData → Type 0
 NextIn ps q [] = Unit {0}
-NextIn ps q (op ∷ ops) = placed_at (q.at + size_of_op q.op) ps ≡ Some (record { at = q.at + size_of_op q.op; brackets = brackets_after q.at q.op.code q.brackets; zones = zones_behind_op q.at q.op.code q.zones; before = before_next q.op q.before; op = op; rest = ops })
+NextIn ps q (op ∷ ops) = placed_op_at (q.at + size_of_op q.op) ps ≡ Some (record { at = q.at + size_of_op q.op; brackets = brackets_after q.at q.op.code q.brackets; zones = zones_behind_op q.at q.op.code q.zones; before = before_next q.op q.before; op = op; rest = ops })
 
-pub place_offset : (qs : List PlacedOp) (at : ℕ) (q : PlacedOp) → placed_at at qs ≡ Some q → q.at ≡ at
+pub place_offset : (qs : List PlacedOp) (at : ℕ) (q : PlacedOp) → placed_op_at at qs ≡ Some q → q.at ≡ at
 place_offset [] at q found = absurd cc
 place_offset (p ∷ qs) at q found =
-    option_by_test (eqb p.at at) p (placed_at at qs) q found (q.at ≡ at)
+    option_by_test (eqb p.at at) p (placed_op_at at qs) q found (q.at ≡ at)
     (λ t e. sym (ap (λ (z : PlacedOp). z.at) e) ∙ eqb-true p.at at t)
     (λ f e. place_offset qs at q e)
 
-next_in : (from : ℕ) (brackets : List OpenBracket) (zones : List ℕ) (before ops : List OpData) (at : ℕ) (q : PlacedOp) → placed_at at (ops_placed from brackets zones before ops) ≡ Some q → NextIn (ops_placed from brackets zones before ops) q q.rest
+next_in : (from : ℕ) (brackets : List OpenBracket) (zones : List ℕ) (before ops : List OpData) (at : ℕ) (q : PlacedOp) → placed_op_at at (ops_placed from brackets zones before ops) ≡ Some q → NextIn (ops_placed from brackets zones before ops) q q.rest
 next_in from brackets zones before [] at q found = absurd cc
 next_in from brackets zones before (o ∷ ops) at q found =
     option_by_test (eqb from at) here behind q found (NextIn (ops_placed from brackets zones before (o ∷ ops)) q q.rest)
@@ -168,7 +168,7 @@ next_in from brackets zones before (o ∷ ops) at q found =
     here = record { at = from; brackets = brackets; zones = zones; before = before; op = o; rest = ops }
 
     behind : Option PlacedOp
-    behind = placed_at at (ops_placed (from + size_of_op o) (brackets_after from o.code brackets) (zones_behind_op from o.code zones) (before_next o before) ops)
+    behind = placed_op_at at (ops_placed (from + size_of_op o) (brackets_after from o.code brackets) (zones_behind_op from o.code zones) (before_next o before) ops)
 
     first : (rest : List OpData) → NextIn (ops_placed from brackets zones before (o ∷ rest)) (record { at = from; brackets = brackets; zones = zones; before = before; op = o; rest = rest }) rest
     first [] = tt
@@ -184,7 +184,7 @@ next_in from brackets zones before (o ∷ ops) at q found =
         let other : eqb from (q.at + size_of_op q.op) ≡ false = ne_eqb from (q.at + size_of_op q.op) (λ e. omega (arith, e, le, is, p)) in
         rw other h
 
-pub goes_on : (ops : List OpData) (q : PlacedOp) → placed_at q.at (code_places ops) ≡ Some q → NextIn (code_places ops) q q.rest
+pub goes_on : (ops : List OpData) (q : PlacedOp) → placed_op_at q.at (code_places ops) ≡ Some q → NextIn (code_places ops) q q.rest
 goes_on ops q found = next_in 0 [] [] [] ops q.at q found
 
 -- ---- the last op
@@ -195,14 +195,14 @@ record Same (from : ℕ) (brackets : List OpenBracket) (zones : List ℕ) (ops :
   left_same : zones_left from zones ops ≡ zones_left (q.at + size_of_op q.op) (zones_behind_op q.at q.op.code q.zones) q.rest
   ends_same : ends_by_be ops ≡ ends_by_be (q.op ∷ q.rest)
 
-same_behind : (from : ℕ) (brackets : List OpenBracket) (zones : List ℕ) (before ops : List OpData) (at : ℕ) (q : PlacedOp) → placed_at at (ops_placed from brackets zones before ops) ≡ Some q → Same from brackets zones ops q
+same_behind : (from : ℕ) (brackets : List OpenBracket) (zones : List ℕ) (before ops : List OpData) (at : ℕ) (q : PlacedOp) → placed_op_at at (ops_placed from brackets zones before ops) ≡ Some q → Same from brackets zones ops q
 same_behind from brackets zones before [] at q found = absurd cc
 same_behind from brackets zones before (o ∷ []) at q found =
     option_by_test (eqb from at) (record { at = from; brackets = brackets; zones = zones; before = before; op = o; rest = [] }) None q found (Same from brackets zones (o ∷ []) q)
     (λ t e. subst (λ (z : PlacedOp). Same from brackets zones (o ∷ []) z) e (record { open_same = refl; left_same = refl; ends_same = refl }))
     (λ f e. absurd cc)
 same_behind from brackets zones before (o ∷ n ∷ ops) at q found =
-    option_by_test (eqb from at) (record { at = from; brackets = brackets; zones = zones; before = before; op = o; rest = n ∷ ops }) (placed_at at (ops_placed (from + size_of_op o) (brackets_after from o.code brackets) (zones_behind_op from o.code zones) (before_next o before) (n ∷ ops))) q found (Same from brackets zones (o ∷ n ∷ ops) q)
+    option_by_test (eqb from at) (record { at = from; brackets = brackets; zones = zones; before = before; op = o; rest = n ∷ ops }) (placed_op_at at (ops_placed (from + size_of_op o) (brackets_after from o.code brackets) (zones_behind_op from o.code zones) (before_next o before) (n ∷ ops))) q found (Same from brackets zones (o ∷ n ∷ ops) q)
     (λ t e. subst (λ (z : PlacedOp). Same from brackets zones (o ∷ n ∷ ops) z) e (record { open_same = refl; left_same = refl; ends_same = refl }))
     (λ f e. let more = same_behind (from + size_of_op o) (brackets_after from o.code brackets) (zones_behind_op from o.code zones) (before_next o before) (n ∷ ops) at q e in record { open_same = more.open_same; left_same = more.left_same; ends_same = more.ends_same })
 
@@ -256,12 +256,12 @@ few_opened at code brackets none most = by (is_opening code) refl
     by true e = let room = room_for code brackets none e in let l = length-append brackets (record { at = at; code = code } ∷ []) in omega (arith, room, l)
     by false e = by_close (eqb code (op_code_of operation.Unnest))
 
-few_at : (a : Environment) (ss : List StatementStart) (from : ℕ) (brackets : List OpenBracket) (zones : List ℕ) (before ops : List OpData) (at : ℕ) (q : PlacedOp) → faults_over a ss 0 (ops_placed from brackets zones before ops) ≡ [] → length brackets ≤ most_brackets → placed_at at (ops_placed from brackets zones before ops) ≡ Some q → length q.brackets ≤ most_brackets
+few_at : (a : Environment) (ss : List StatementStart) (from : ℕ) (brackets : List OpenBracket) (zones : List ℕ) (before ops : List OpData) (at : ℕ) (q : PlacedOp) → faults_over a ss 0 (ops_placed from brackets zones before ops) ≡ [] → length brackets ≤ most_brackets → placed_op_at at (ops_placed from brackets zones before ops) ≡ Some q → length q.brackets ≤ most_brackets
 few_at a ss from brackets zones before [] at q none most found = absurd cc
 few_at a ss from brackets zones before (o ∷ ops) at q none most found =
     let here : PlacedOp = record { at = from; brackets = brackets; zones = zones; before = before; op = o; rest = ops } in
     let n = nil_parts (op_faults a ss 0 here) (faults_over a ss 0 (ops_placed (from + size_of_op o) (brackets_after from o.code brackets) (zones_behind_op from o.code zones) (before_next o before) ops)) none in
-    option_by_test (eqb from at) here (placed_at at (ops_placed (from + size_of_op o) (brackets_after from o.code brackets) (zones_behind_op from o.code zones) (before_next o before) ops)) q found (length q.brackets ≤ most_brackets)
+    option_by_test (eqb from at) here (placed_op_at at (ops_placed (from + size_of_op o) (brackets_after from o.code brackets) (zones_behind_op from o.code zones) (before_next o before) ops)) q found (length q.brackets ≤ most_brackets)
     (λ t e. subst (λ (z : PlacedOp). length z.brackets ≤ most_brackets) e most)
     (λ f e. few_at a ss (from + size_of_op o) (brackets_after from o.code brackets) (zones_behind_op from o.code zones) (before_next o before) ops at q n.1 (few_opened from o.code brackets (no_fault a ss 0 here n.0).bracket most) e)
 
@@ -289,12 +289,12 @@ few_zones_behind at code zones none most = by (eqb code (op_code_of (operation.R
     by true e = let room = room_below most_zones (length zones) (rw e at none) in let l = length-append zones (at ∷ []) in omega (arith, room, l)
     by false e = by_close (eqb code (op_code_of (operation.Relay relay.Close)))
 
-few_zones_at : (a : Environment) (ss : List StatementStart) (from : ℕ) (brackets : List OpenBracket) (zones : List ℕ) (before ops : List OpData) (at : ℕ) (q : PlacedOp) → faults_over a ss 0 (ops_placed from brackets zones before ops) ≡ [] → length zones ≤ most_zones → placed_at at (ops_placed from brackets zones before ops) ≡ Some q → length q.zones ≤ most_zones
+few_zones_at : (a : Environment) (ss : List StatementStart) (from : ℕ) (brackets : List OpenBracket) (zones : List ℕ) (before ops : List OpData) (at : ℕ) (q : PlacedOp) → faults_over a ss 0 (ops_placed from brackets zones before ops) ≡ [] → length zones ≤ most_zones → placed_op_at at (ops_placed from brackets zones before ops) ≡ Some q → length q.zones ≤ most_zones
 few_zones_at a ss from brackets zones before [] at q none most found = absurd cc
 few_zones_at a ss from brackets zones before (o ∷ ops) at q none most found =
     let here : PlacedOp = record { at = from; brackets = brackets; zones = zones; before = before; op = o; rest = ops } in
     let n = nil_parts (op_faults a ss 0 here) (faults_over a ss 0 (ops_placed (from + size_of_op o) (brackets_after from o.code brackets) (zones_behind_op from o.code zones) (before_next o before) ops)) none in
-    option_by_test (eqb from at) here (placed_at at (ops_placed (from + size_of_op o) (brackets_after from o.code brackets) (zones_behind_op from o.code zones) (before_next o before) ops)) q found (length q.zones ≤ most_zones)
+    option_by_test (eqb from at) here (placed_op_at at (ops_placed (from + size_of_op o) (brackets_after from o.code brackets) (zones_behind_op from o.code zones) (before_next o before) ops)) q found (length q.zones ≤ most_zones)
     (λ t e. subst (λ (z : PlacedOp). length z.zones ≤ most_zones) e most)
     (λ f e. few_zones_at a ss (from + size_of_op o) (brackets_after from o.code brackets) (zones_behind_op from o.code zones) (before_next o before) ops at q n.1 (few_zones_behind from o.code zones (no_fault a ss 0 here n.0).zone most) e)
 
@@ -327,14 +327,14 @@ pub none_if : (b : Bool) (from : ℕ) (more : Option ℕ) → cond b (Some from)
 none_if true from more e = absurd cc
 none_if false from more e = (refl, e)
 
-few_before : (from : ℕ) (brackets : List OpenBracket) (zones : List ℕ) (before ops : List OpData) (at : ℕ) (q : PlacedOp) → overlong_statement (length before) from ops ≡ None → length before ≤ 64 → placed_at at (ops_placed from brackets zones before ops) ≡ Some q → length q.before < 64
+few_before : (from : ℕ) (brackets : List OpenBracket) (zones : List ℕ) (before ops : List OpData) (at : ℕ) (q : PlacedOp) → overlong_statement (length before) from ops ≡ None → length before ≤ 64 → placed_op_at at (ops_placed from brackets zones before ops) ≡ Some q → length q.before < 64
 few_before from brackets zones before [] at q none most found = absurd cc
 few_before from brackets zones before (o ∷ ops) at q none most found =
     let n = none_if (eqb (length before) 64) from (overlong_statement (cond o.last 0 (suc (length before))) (from + size_of_op o) ops) none in
     let lt : length before < 64 = let ne = eqb-false (length before) 64 n.0 in grind (arith, ne, most) in
     let next = few_next o before in
     let more : overlong_statement (length (before_next o before)) (from + size_of_op o) ops ≡ None = ap (λ (k : ℕ). overlong_statement k (from + size_of_op o) ops) next ∙ n.1 in
-    option_by_test (eqb from at) (record { at = from; brackets = brackets; zones = zones; before = before; op = o; rest = ops }) (placed_at at (ops_placed (from + size_of_op o) (brackets_after from o.code brackets) (zones_behind_op from o.code zones) (before_next o before) ops)) q found (length q.before < 64)
+    option_by_test (eqb from at) (record { at = from; brackets = brackets; zones = zones; before = before; op = o; rest = ops }) (placed_op_at at (ops_placed (from + size_of_op o) (brackets_after from o.code brackets) (zones_behind_op from o.code zones) (before_next o before) ops)) q found (length q.before < 64)
     (λ t e. subst (λ (z : PlacedOp). length z.before < 64) e lt)
     (λ f e. few_before (from + size_of_op o) (brackets_after from o.code brackets) (zones_behind_op from o.code zones) (before_next o before) ops at q more (most_next o.last next lt) e)
   where
@@ -393,14 +393,14 @@ line_here from begin o ops lines at ended most t is =
 line_later : (from : ℕ) (begin : Bool) (o : OpData) (ops : List OpData) (lines : List ℕ) (at : ℕ) → eqb from at ≡ false → HasLineAt (from + size_of_op o) o.last ops (cond o.last (drop 1 lines) lines) at → HasLineAt from begin (o ∷ ops) lines at
 line_later from begin o ops lines at f l = (l.0, rw f l.1)
 
-line_there : (from : ℕ) (brackets : List OpenBracket) (zones : List ℕ) (before ops : List OpData) (lines : List ℕ) (at : ℕ) (q : PlacedOp) → ends_by_be ops ≡ true → end_marks ops ≤ length lines → placed_at at (ops_placed from brackets zones before ops) ≡ Some q → is_empty_list q.before ≡ true → HasLineAt from (is_empty_list before) ops lines at
+line_there : (from : ℕ) (brackets : List OpenBracket) (zones : List ℕ) (before ops : List OpData) (lines : List ℕ) (at : ℕ) (q : PlacedOp) → ends_by_be ops ≡ true → end_marks ops ≤ length lines → placed_op_at at (ops_placed from brackets zones before ops) ≡ Some q → is_empty_list q.before ≡ true → HasLineAt from (is_empty_list before) ops lines at
 line_there from brackets zones before [] lines at q ended most found first = absurd cc
 line_there from brackets zones before (o ∷ []) lines at q ended most found first =
     option_by_test (eqb from at) (record { at = from; brackets = brackets; zones = zones; before = before; op = o; rest = [] }) None q found (HasLineAt from (is_empty_list before) (o ∷ []) lines at)
     (λ t e. line_here from (is_empty_list before) o [] lines at ended most t (ap (λ (z : PlacedOp). is_empty_list z.before) e ∙ first))
     (λ f e. absurd cc)
 line_there from brackets zones before (o ∷ n ∷ ops) lines at q ended most found first =
-    option_by_test (eqb from at) (record { at = from; brackets = brackets; zones = zones; before = before; op = o; rest = n ∷ ops }) (placed_at at (ops_placed (from + size_of_op o) (brackets_after from o.code brackets) (zones_behind_op from o.code zones) (before_next o before) (n ∷ ops))) q found (HasLineAt from (is_empty_list before) (o ∷ n ∷ ops) lines at)
+    option_by_test (eqb from at) (record { at = from; brackets = brackets; zones = zones; before = before; op = o; rest = n ∷ ops }) (placed_op_at at (ops_placed (from + size_of_op o) (brackets_after from o.code brackets) (zones_behind_op from o.code zones) (before_next o before) (n ∷ ops))) q found (HasLineAt from (is_empty_list before) (o ∷ n ∷ ops) lines at)
     (λ t e. line_here from (is_empty_list before) o (n ∷ ops) lines at ended most t (ap (λ (z : PlacedOp). is_empty_list z.before) e ∙ first))
     (λ f e. line_later from (is_empty_list before) o (n ∷ ops) lines at f
     (subst (λ (z : Bool). HasLineAt (from + size_of_op o) z (n ∷ ops) (cond o.last (drop 1 lines) lines) at) (empty_next o before)

@@ -10,7 +10,7 @@ use Rattle.flat_code.specs.Programs.{DataBlock, Program}
 use Rattle.flat_code.specs.declared.stamps.Stamp.{Stamp}
 use Rattle.flat_code.specs.Records.{BlockRecord, NameRecord, ImageRecords}
 use Rattle.flat_code.specs.declared.image_fields.ParameterRecord.{ParameterRecord}
-use Rattle.flat_code.specs.Layout.{ReadingNote, Faulty, Whole, AllBlocks, Cursor, ReadResult, FieldLayout, reading_ended, reading_given, go_on, bind_reading, fault_note, field_of, field_layout, chain_layout, checked_layout, located_layout, read_many, list_layout, seen_as, noted_layout, faults_in}
+use Rattle.flat_code.specs.Layout.{ReadingNote, Faulty, Whole, AllBlocks, Cursor, ReadResult, FieldLayout, reading_ended, reading_given, go_on, bind_reading, fault_note, field_of, field_layout, chain_layout, checked_layout, located_layout, read_many, list_layout, layout_seen_as, noted_layout, faults_in}
 use Rattle.flat_code.specs.Codes.{ops_from, stop_at, read_ops, read_code, code_layout}
 use Rattle.flat_code.specs.Image.{no_fault, plain_u16, plain_u32, zero_u8, zero_u16, width_field, bytes_coding, section_field, parameter_byte, parameter_bit, parameter_rows, parameter_fields, parameter_row, parameter_of_fields, fields_of_parameter, parameter_layout, kind_field, parameter_count_layout, block_number_layout, local_length_layout, instance_bytes_layout, Head, head_of_row, row_of_head, head_rows, head_layout, same_state, parameters_layout, line_after, line_field, lines_layout, code_and_lines, BlockRow, parts_of_block_row, row_of_block_parts, block_rows, block_of_parts, parts_of_block, plain_block, whole_note, code_block_at, code_block_layout, after_block, data_number_layout, instance_field, data_length_layout, contents_layout, data_rows, data_fields, data_row, data_of_fields, fields_of_data, data_block_layout, after_data, name_len, name_bytes, name_area, name_bit, name_rows, name_fields, name_row, name_of_fields, fields_of_name, name_record, after_name, data_count, RecordCounts, counts_of_row, row_of_counts, count_rows, counts_layout, code_blocks_layout, plain_data_blocks, data_blocks_layout, names_layout, BodyRow, parts_of_body_row, row_of_body_parts, body_rows, records_of_parts, parts_of_records, records_layout, record_of_block, program_of_records, records_of, body_layout, magic_field, version_field, profile_field, Front, front_of_row, row_of_front, front_rows, front_layout, front_size, stamp_in, end_layout, read_cut_off, read_by, read_image}
 use Rattle.flat_code.specs.declared.image_fields.OpenBracket.{OpenBracket}
@@ -139,7 +139,7 @@ chain_notes {A = A} {B = B} l m v w p q = record {
 checked_notes : {A : Type 0} (at : ℕ) (fault : Option ℕ) (l : FieldLayout A) (v : A → NotedBlocks) → Notes A l v → Notes A (checked_layout at fault l) v
 checked_notes {A = A} at fault l v p = record { says = λ cur x end e. blocks_in-append (fault_note at fault) (l.read cur).notes ∙ ap (λ (z : NotedBlocks). join z (blocks_in (l.read cur).notes)) (none_noted at fault) ∙ nothing-join (blocks_in (l.read cur).notes) ∙ p.says cur x end e }
 
-seen_notes : {A B : Type 0} (to : A → B) (from : B → A) (l : FieldLayout A) (v : A → NotedBlocks) (w : B → NotedBlocks) → ((x : A) → v x ≡ w (to x)) → Notes A l v → Notes B (seen_as to from l) w
+seen_notes : {A B : Type 0} (to : A → B) (from : B → A) (l : FieldLayout A) (v : A → NotedBlocks) (w : B → NotedBlocks) → ((x : A) → v x ≡ w (to x)) → Notes A l v → Notes B (layout_seen_as to from l) w
 seen_notes {A = A} {B = B} to from l v w same p = record {
   says = λ cur y end e.
       let a = steps (l.read cur) (λ x end. reading_given (to x) end) y end e in

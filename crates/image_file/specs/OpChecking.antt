@@ -35,8 +35,8 @@ ZonesUpTo n [] = Unit {0}
 ZonesUpTo n (at ∷ zones) = (at ≤ n) × ZonesUpTo n zones
 
 -- an op with its place in the code, by what the checker has at that place
-abbrev pub placed_of : OpData → OpPlace → PlacedOp
-placed_of op p = record {
+abbrev pub placed_op_of : OpData → OpPlace → PlacedOp
+placed_op_of op p = record {
   at = p.at;
   brackets = p.brackets.now;
   zones = p.zones.now;

@@ -27,15 +27,15 @@ use Rattle.flat_code.specs.Programs.{CodeBlock, Program}
 use Rattle.flat_code.specs.Image.{record_of_block, record_of_param, kind_of_number}
 use Rattle.flat_code.specs.Loading.{Verifies, lens_of, environment_of_block}
 use Rattle.flat_code.specs.Records.{section_in}
-use Rattle.flat_code.specs.Table.{takes_of, has_memory_width}
+use Rattle.flat_code.specs.Table.{forms_of, has_memory_width}
 use Rattle.flat_code.specs.PlacedOps.{PlacedOp, op_placed, line_placed, code_places, begins_its_statement, bracket_codes, is_opening, brackets_after, zones_behind_op, most_brackets, most_zones, before_next, last_op}
 use Rattle.flat_code.specs.Blocks.{BlockSignature, signature_of, CalleeSignature, callee_among, writes_operand, prepares_statement, is_odd_bit, is_in_db, is_above, pass_before, are_all_passed, is_bad_instance, misfits_parameter, leads_to_target}
 use Rattle.image_file.specs.Readers.{block_by_id}
 
 -- the op of code that begins at the offset `at`, in its place; None where none begins there
-abbrev pub placed_at : ℕ → List PlacedOp → Option PlacedOp
-placed_at at [] = None
-placed_at at (q ∷ qs) = if q.at == at then Some q else placed_at at qs
+abbrev pub placed_op_at : ℕ → List PlacedOp → Option PlacedOp
+placed_op_at at [] = None
+placed_op_at at (q ∷ qs) = if q.at == at then Some q else placed_op_at at qs
 
 -- `q` is an op, in its place, of the code block `b` of a program that verifies
 pub record IsVerifiedOp (p : Program) (b : CodeBlock) (q : PlacedOp) : Type 0 where
@@ -46,7 +46,7 @@ pub record IsVerifiedOp (p : Program) (b : CodeBlock) (q : PlacedOp) : Type 0 wh
   -- the block is the one of that kind and number in the program
   pub block : block_by_id id p.code_blocks ≡ Some b
   -- the op stands at its offset in the code of the block
-  pub place : placed_at q.at (code_places b.code) ≡ Some q
+  pub place : placed_op_at q.at (code_places b.code) ≡ Some q
 
 -- ---- places
 
@@ -56,7 +56,7 @@ pub record IsReaderOp (ops : List OpData) (at : ℕ) (op : OpData) (next : ℕ) 
   -- the op in its place
   pub here : PlacedOp
   -- the code has an op at the offset
-  pub place : placed_at at (code_places ops) ≡ Some here
+  pub place : placed_op_at at (code_places ops) ≡ Some here
   -- the op in its place begins at the offset
   pub offset : here.at ≡ at
   -- the op in its place is the one that was read
@@ -76,7 +76,7 @@ abbrev pub HasNext : CodeBlock → PlacedOp → List OpData → Type 0
 HasNext b q [] =
     (q.op.code ≡ op_code_of (operation.End ends.Be)) × (q.op.last ≡ true) × (q.brackets ≡ [])
     × (q.zones ≡ [])
-HasNext b q (op ∷ ops) = placed_at (q.at + size_of_op q.op) (code_places b.code) ≡ Some (record {
+HasNext b q (op ∷ ops) = placed_op_at (q.at + size_of_op q.op) (code_places b.code) ≡ Some (record {
   at = q.at + size_of_op q.op;
   brackets = brackets_after q.at q.op.code q.brackets;
   zones = zones_behind_op q.at q.op.code q.zones;
@@ -128,7 +128,7 @@ pub record BlockBegins (b : CodeBlock) : Type 0 where
   -- the first op, in its place
   pub first : PlacedOp
   -- the code has the op at offset 0
-  pub place : placed_at 0 (code_places b.code) ≡ Some first
+  pub place : placed_op_at 0 (code_places b.code) ≡ Some first
   -- the op begins at offset 0
   pub offset : first.at ≡ 0
   -- the op is the first of its statement
@@ -161,7 +161,7 @@ pub record Lands (b : CodeBlock) (q : PlacedOp) (target : ℕ) : Type 0 where
   -- the op at the target, in its place
   pub there : PlacedOp
   -- the code has an op at the target
-  pub place : placed_at target (code_places b.code) ≡ Some there
+  pub place : placed_op_at target (code_places b.code) ≡ Some there
   -- the op in its place begins at the target
   pub offset : there.at ≡ target
   -- the op at the target is the first of its statement
@@ -234,13 +234,13 @@ pub record HasParam (b : CodeBlock) (index : ℕ) (w : Width) (param : Param) : 
 -- is there, and an input of it isn't written
 abbrev pub FitsOperand : CodeBlock → OpData → Operand → Type 0
 FitsOperand b op (operand.Direct a w byte bit) =
-    (has_memory_width (takes_of op.code) w ≡ true) × (is_odd_bit w bit ≡ false)
+    (has_memory_width (forms_of op.code) w ≡ true) × (is_odd_bit w bit ≡ false)
     × LiesWithin b a w byte
-FitsOperand b op (operand.ByMemory a w from byte) = has_memory_width (takes_of op.code) w ≡ true
+FitsOperand b op (operand.ByMemory a w from byte) = has_memory_width (forms_of op.code) w ≡ true
 FitsOperand b op (operand.ByRegister a w register bits) =
-    has_memory_width (takes_of op.code) w ≡ true
+    has_memory_width (forms_of op.code) w ≡ true
 FitsOperand b op (operand.Parameter index w) =
-    (has_memory_width (takes_of op.code) w ≡ true) × (param : Param) × HasParam b index w param
+    (has_memory_width (forms_of op.code) w ≡ true) × (param : Param) × HasParam b index w param
     × (writes_operand op.code ≡ true → param.section ≡ section_in → ⊥)
 FitsOperand b op _ = Unit {0}
 

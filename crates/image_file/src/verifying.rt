@@ -4,7 +4,7 @@ ghost use Rattle.std.specs.Option.{option_map};
 ghost use Rattle.flat_code.specs.Codes.{size_of_op, code_bytes};
 ghost use Rattle.flat_code.specs.PlacedOps.{codes_of_few_brackets, starts_of_statements, statement_start_at};
 ghost use Rattle.flat_code.specs.Blocks.{are_other_brackets, call_fault_among, nesting_fault, target_fault, jump_fault, operand_fault, call_fault, op_faults, open_faults, open_zone_faults, block_faults};
-ghost use Rattle.image_file.specs.OpChecking.{AllUpTo, ZonesUpTo, environment_of, placed_of};
+ghost use Rattle.image_file.specs.OpChecking.{AllUpTo, ZonesUpTo, environment_of, placed_op_of};
 ghost use Rattle.image_file.specs.Least.{with_faults};
 
 use crate::calls::{is_bad_call, misfits_call};
@@ -104,7 +104,7 @@ fn jump_fault(
     target: u32,
 ) -> Option<u16>
     requires { place.now.at + size_of_op op.now + length (code_bytes place.now.rest.now) < 2 ^ 32 }
-    ensures { result ≡ jump_fault statements.now (placed_of op.now place.now) kind target }
+    ensures { result ≡ jump_fault statements.now (placed_op_of op.now place.now) kind target }
 {
     if kind == JUMP_LIST && !leads(target, place.at + op.size(), place.rest) {
         return Some(6);
@@ -122,7 +122,7 @@ fn operand_fault(
 ) -> Option<u16>
     requires { place.now.at + size_of_op op.now + length (code_bytes place.now.rest.now) < 2 ^ 32 }
     ensures { result ≡ operand_fault (environment_of environment.now) statements.now
-        (placed_of op.now place.now) op.now.operand }
+        (placed_op_of op.now place.now) op.now.operand }
 {
     match op.operand {
         Operand::Direct {
@@ -162,7 +162,7 @@ fn call_fault_among(
     place: &OpPlace,
 ) -> Option<u16>
     ensures { result ≡ call_fault_among (environment_of environment.now) lens.now
-        (placed_of op.now place.now) op.now.operand }
+        (placed_op_of op.now place.now) op.now.operand }
 {
     match op.operand {
         Operand::Called {
@@ -181,7 +181,7 @@ fn call_fault_among(
 /// The fault of a call, where calls are checked.
 fn call_fault(environment: &BlockEnvironment, op: &Op, place: &OpPlace) -> Option<u16>
     ensures { result ≡ call_fault (environment_of environment.now)
-        (environment_of environment.now).data_lens (placed_of op.now place.now) }
+        (environment_of environment.now).data_lens (placed_op_of op.now place.now) }
 {
     match environment.data_lens {
         None => None,
@@ -203,7 +203,7 @@ fn check_op(
         < 2 ^ 32 }
     requires start { start + place.now.at < 2 ^ 32 }
     ensures { result ≡ with_faults least (op_faults (environment_of environment.now) statements.now
-        start (placed_of op.now place.now)) }
+        start (placed_op_of op.now place.now)) }
 {
     let at = start + place.at;
     let least = lesser_if(least, at, operand_fault(environment, statements, op, place));

@@ -15,7 +15,7 @@ use Rattle.flat_code.specs.Kinds.{timer_kind, counter_kind}
 use Rattle.flat_code.specs.Forms.{passed_coding, actual_fits, is_crossing_area, direct_coding, holds_pointers, is_memory_area, payload_fits}
 use Rattle.flat_code.specs.Operations.{operation_of}
 use Rattle.flat_code.specs.Ops.{IsOp, OpData, is_op}
-use Rattle.flat_code.specs.Table.{admits, is_call_form, is_open, is_pass, is_use_db, takes_condition, takes_direct, takes_indirect, takes_kind, takes_literal, takes_nothing, takes_of}
+use Rattle.flat_code.specs.Table.{admits, is_call_form, is_open, is_pass, is_use_db, takes_condition, takes_direct, takes_indirect, takes_kind, takes_literal, takes_nothing, forms_of}
 use Rattle.flat_code.specs.declared.table.OperandForms.{OperandForms}
 use Rattle.flat_code.specs.declared.table.OperandForms.TheVariants as forms
 use Rattle.flat_code.specs.declared.operations.AddConstant.TheVariants as add_constant
@@ -239,25 +239,25 @@ follows : (a b : Bool) → (not a || b) ≡ true → a ≡ true → b ≡ true
 follows true b h e = h
 follows false b h e = absurd (false≢true e)
 
-plain_word : (c : ℕ) → c < 128 → is_plain_takes (takes_of c) ≡ true → is_plain (syntax_of (mnemonic_of_code c)) ≡ true
-unfolding takes_of operation_of mnemonic_of_code
-plain_word c h e = follows _ _ (agree_below_at (λ c. not (is_plain_takes (takes_of c)) || is_plain (syntax_of (mnemonic_of_code c))) (λ c. true) 128 c refl h) e
+plain_word : (c : ℕ) → c < 128 → is_plain_takes (forms_of c) ≡ true → is_plain (syntax_of (mnemonic_of_code c)) ≡ true
+unfolding forms_of operation_of mnemonic_of_code
+plain_word c h e = follows _ _ (agree_below_at (λ c. not (is_plain_takes (forms_of c)) || is_plain (syntax_of (mnemonic_of_code c))) (λ c. true) 128 c refl h) e
 
-nothing_word : (c : ℕ) → c < 128 → takes_nothing (takes_of c) ≡ true → (is_plain (syntax_of (mnemonic_of_code c)) || is_bracket (syntax_of (mnemonic_of_code c)) && is_nothing (implied_operand (operation_of c))) ≡ true
-unfolding takes_of operation_of mnemonic_of_code
-nothing_word c h e = follows _ _ (agree_below_at (λ c. not (takes_nothing (takes_of c)) || (is_plain (syntax_of (mnemonic_of_code c)) || is_bracket (syntax_of (mnemonic_of_code c)) && is_nothing (implied_operand (operation_of c)))) (λ c. true) 128 c refl h) e
+nothing_word : (c : ℕ) → c < 128 → takes_nothing (forms_of c) ≡ true → (is_plain (syntax_of (mnemonic_of_code c)) || is_bracket (syntax_of (mnemonic_of_code c)) && is_nothing (implied_operand (operation_of c))) ≡ true
+unfolding forms_of operation_of mnemonic_of_code
+nothing_word c h e = follows _ _ (agree_below_at (λ c. not (takes_nothing (forms_of c)) || (is_plain (syntax_of (mnemonic_of_code c)) || is_bracket (syntax_of (mnemonic_of_code c)) && is_nothing (implied_operand (operation_of c)))) (λ c. true) 128 c refl h) e
 
-call_word : (c : ℕ) → c < 128 → is_call_form (takes_of c) ≡ true → is_calling (syntax_of (mnemonic_of_code c)) ≡ true
-unfolding takes_of operation_of mnemonic_of_code
-call_word c h e = follows _ _ (agree_below_at (λ c. not (is_call_form (takes_of c)) || is_calling (syntax_of (mnemonic_of_code c))) (λ c. true) 128 c refl h) e
+call_word : (c : ℕ) → c < 128 → is_call_form (forms_of c) ≡ true → is_calling (syntax_of (mnemonic_of_code c)) ≡ true
+unfolding forms_of operation_of mnemonic_of_code
+call_word c h e = follows _ _ (agree_below_at (λ c. not (is_call_form (forms_of c)) || is_calling (syntax_of (mnemonic_of_code c))) (λ c. true) 128 c refl h) e
 
-open_word : (c : ℕ) → c < 128 → is_open (takes_of c) ≡ true → is_opens (syntax_of (mnemonic_of_code c)) ≡ true
-unfolding takes_of operation_of mnemonic_of_code
-open_word c h e = follows _ _ (agree_below_at (λ c. not (is_open (takes_of c)) || is_opens (syntax_of (mnemonic_of_code c))) (λ c. true) 128 c refl h) e
+open_word : (c : ℕ) → c < 128 → is_open (forms_of c) ≡ true → is_opens (syntax_of (mnemonic_of_code c)) ≡ true
+unfolding forms_of operation_of mnemonic_of_code
+open_word c h e = follows _ _ (agree_below_at (λ c. not (is_open (forms_of c)) || is_opens (syntax_of (mnemonic_of_code c))) (λ c. true) 128 c refl h) e
 
-prepares_word : (c : ℕ) → c < 128 → (is_use_db (takes_of c) || is_pass (takes_of c)) ≡ true → is_empty_statement (mnemonic_of_code c) ≡ true
-unfolding takes_of operation_of mnemonic_of_code
-prepares_word c h e = follows _ _ (agree_below_at (λ c. not (is_use_db (takes_of c) || is_pass (takes_of c)) || is_empty_statement (mnemonic_of_code c)) (λ c. true) 128 c refl h) e
+prepares_word : (c : ℕ) → c < 128 → (is_use_db (forms_of c) || is_pass (forms_of c)) ≡ true → is_empty_statement (mnemonic_of_code c) ≡ true
+unfolding forms_of operation_of mnemonic_of_code
+prepares_word c h e = follows _ _ (agree_below_at (λ c. not (is_use_db (forms_of c) || is_pass (forms_of c)) || is_empty_statement (mnemonic_of_code c)) (λ c. true) 128 c refl h) e
 
 jumping_word : (k : ℕ) → k < 18 → is_jumping (syntax_of (mnemonic_of_jump k)) ≡ true
 unfolding mnemonic_of_jump
@@ -413,7 +413,7 @@ instance_called kind number instance n i (inr fb) = subst (λ (k : ℕ). IsCallO
     (either_way (λ o. IsCallOperand (operand.Called (block.Number (called_id (kind_number kinds.Fb) number)) o)) (instance == 0) None (Some (data_block_name instance)) n ((refl, n), (refl, i)))
 
 -- CALL with its actual parameters, or UC and CC
-called_fits : (line code kind number instance : ℕ) (formals called : List Formal) (before : List OpData) → code < 128 → is_call_form (takes_of code) ≡ true → IsNumber number → IsNumber instance
+called_fits : (line code kind number instance : ℕ) (formals called : List Formal) (before : List OpData) → code < 128 → is_call_form (forms_of code) ≡ true → IsNumber number → IsNumber instance
     → IsCallBy before code kind instance → AllByRecursion (IsPrintedActual line) (actuals_before line formals called before)
     → FitsSyntax line (syntax_of (mnemonic_of_code code)) (operand.Called (block.Number (called_id kind number)) (instance_name instance)) (actuals_before line formals called before)
 unfolding mnemonic_of_code
@@ -438,44 +438,44 @@ timer_printed kind number h = either_way IsPrintedOperand (kind == timer_kind) (
 
 -- operand and actual parameters of the last op of a statement
 fits : (ss : List Signature) (line : ℕ) (formals : List Formal) (starts : List ℕ) (before : List OpData) (code : ℕ) (o : FlatOperand) → AreBlocksWords ss → AreWords formals
-    → AllByRecursion IsOp before → AllByRecursion (λ op. PreparesPlace op.operand) before → code < 128 → admits (takes_of code) o ≡ true → payload_fits o ≡ true → IsLastOperandPrinted before code o
+    → AllByRecursion IsOp before → AllByRecursion (λ op. PreparesPlace op.operand) before → code < 128 → admits (forms_of code) o ≡ true → payload_fits o ≡ true → IsLastOperandPrinted before code o
     → is_empty_statement (mnemonic_by code o) ≡ false
     → FitsSyntax line (syntax_of (mnemonic_by code o)) (operand_by formals starts (block_opened_by_ops before) (operation_of code) o) (actuals_by ss line formals before o)
 unfolding operand_by plain_operand actuals_by admits
 fits ss line formals starts before code flat.Nothing known named ops prepares h a e shown word =
     bare_fits line (syntax_of (mnemonic_of_code code)) (implied_operand (operation_of code)) (nothing_word code h a) (implied_printed (operation_of code))
 fits ss line formals starts before code (flat.Literal value) known named ops prepares h a e shown word =
-    plain_fits line (syntax_of (mnemonic_of_code code)) (instruction_constant (operation_of code) value) (plain_word code h (literal_plain (takes_of code) value a)) (constant_printed (operation_of code) value (ltb-true value 4294967296 e))
+    plain_fits line (syntax_of (mnemonic_of_code code)) (instruction_constant (operation_of code) value) (plain_word code h (literal_plain (forms_of code) value a)) (constant_printed (operation_of code) value (ltb-true value 4294967296 e))
 fits ss line formals starts before code (flat.Direct ar w byte bit) known named ops prepares h a e shown word =
-    plain_fits line (syntax_of (mnemonic_of_code code)) _ (plain_word code h (direct_plain (takes_of code) a))
+    plain_fits line (syntax_of (mnemonic_of_code code)) _ (plain_word code h (direct_plain (forms_of code) a))
     (place_printed (block_opened_by_ops before) (operation_writes_operand (operation_of code)) ar w byte bit (opened_number before ops) shown.0 shown.1 (byte_place ar w byte bit e))
 fits ss line formals starts before code (flat.ByMemory ar w from byte) known named ops prepares h a e shown word =
     let parts = and_parts (is_memory_area ar) (holds_pointers from && nat_lt byte 65536) e in
     let more = and_parts (holds_pointers from) (nat_lt byte 65536) parts.1 in
-    plain_fits line (syntax_of (mnemonic_of_code code)) _ (plain_word code h (indirect_plain (takes_of code) a)) (memory_is ar w parts.0, pointer_is from more.0, number_is byte more.1)
+    plain_fits line (syntax_of (mnemonic_of_code code)) _ (plain_word code h (indirect_plain (forms_of code) a)) (memory_is ar w parts.0, pointer_is from more.0, number_is byte more.1)
 fits ss line formals starts before code (flat.ByRegister ar w register bits) known named ops prepares h a e shown word =
     let parts = and_parts (is_crossing_area ar) ((nat_lt register 256 && (nat_le 1 register && nat_le register 2)) && nat_lt bits 4294967296) e in
     let within_ = (and_parts (nat_lt register 256) (nat_le 1 register && nat_le register 2) (and_parts (nat_lt register 256 && (nat_le 1 register && nat_le register 2)) (nat_lt bits 4294967296) parts.1).0).1 in
     let bounds = and_parts (nat_le 1 register) (nat_le register 2) within_ in
-    plain_fits line (syntax_of (mnemonic_of_code code)) _ (plain_word code h (indirect_plain (takes_of code) a)) (crossing_is ar w parts.0, one_or_two register bounds.0 bounds.1, shown)
+    plain_fits line (syntax_of (mnemonic_of_code code)) _ (plain_word code h (indirect_plain (forms_of code) a)) (crossing_is ar w parts.0, one_or_two register bounds.0 bounds.1, shown)
 fits ss line formals starts before code (flat.Parameter index w) known named ops prepares h a e shown word =
     let few = ltb-true index 256 (and_parts (nat_lt index 256) _ e).0 in
-    plain_fits line (syntax_of (mnemonic_of_code code)) _ (plain_word code h (indirect_plain (takes_of code) a)) (name_word formals index (omega (arith, few)) named)
+    plain_fits line (syntax_of (mnemonic_of_code code)) _ (plain_word code h (indirect_plain (forms_of code) a)) (name_word formals index (omega (arith, few)) named)
 fits ss line formals starts before code (flat.Numbered kind number) known named ops prepares h a e shown word =
-    plain_fits line (syntax_of (mnemonic_of_code code)) _ (plain_word code h (kind_plain (takes_of code) kind a)) (timer_printed kind number (number_is number (and_parts _ (nat_lt number 65536) e).1))
+    plain_fits line (syntax_of (mnemonic_of_code code)) _ (plain_word code h (kind_plain (forms_of code) kind a)) (timer_printed kind number (number_is number (and_parts _ (nat_lt number 65536) e).1))
 fits ss line formals starts before code (flat.NumberedBy kind from byte) known named ops prepares h a e shown word =
     let parts = and_parts (holds_pointers from) (nat_lt byte 65536) (and_parts _ (holds_pointers from && nat_lt byte 65536) e).1 in
-    plain_fits line (syntax_of (mnemonic_of_code code)) _ (plain_word code h (kind_plain (takes_of code) kind a)) (pointer_is from parts.0, number_is byte parts.1)
+    plain_fits line (syntax_of (mnemonic_of_code code)) _ (plain_word code h (kind_plain (forms_of code) kind a)) (pointer_is from parts.0, number_is byte parts.1)
 fits ss line formals starts before code (flat.Jump kind target) known named ops prepares h a e shown word =
     let most = leb-true kind 17 (and_parts (nat_le 0 kind) (nat_le kind 17) (and_parts (nat_lt kind 256) _ (and_parts _ (nat_lt target 4294967296) e).0).1).1 in
     let label = labels_printed (statement_number_at starts target) in
     jump_fits line (syntax_of (mnemonic_of_jump kind)) _ (jumping_word kind (omega (arith, most))) (label.is_name.word, label.short)
 fits ss line formals starts before code (flat.OfStatus condition) known named ops prepares h a e shown word =
-    plain_fits line (syntax_of (mnemonic_of_code code)) _ (plain_word code h (condition_plain (takes_of code) a)) tt
+    plain_fits line (syntax_of (mnemonic_of_code code)) _ (plain_word code h (condition_plain (forms_of code) a)) tt
 fits ss line formals starts before code (flat.UseDb number) known named ops prepares h a e shown word =
-    absurd (false≢true (sym word ∙ prepares_word code h (either_true (is_use_db (takes_of code)) (is_pass (takes_of code)) a)))
+    absurd (false≢true (sym word ∙ prepares_word code h (either_true (is_use_db (forms_of code)) (is_pass (forms_of code)) a)))
 fits ss line formals starts before code (flat.Pass index p) known named ops prepares h a e shown word =
-    absurd (false≢true (sym word ∙ prepares_word code h (second_true (is_use_db (takes_of code)) (is_pass (takes_of code)) a)))
+    absurd (false≢true (sym word ∙ prepares_word code h (second_true (is_use_db (forms_of code)) (is_pass (forms_of code)) a)))
 fits ss line formals starts before code (flat.Called kind number instance) known named ops prepares h a e shown word =
     let parts = and_parts (nat_lt number 65536) (nat_lt instance 65536) (and_parts _ _ e).1 in
     let called = called_formals ss (called_id kind number) in
@@ -492,8 +492,8 @@ run_fits : (s : ListingContext) (n : ℕ) (r : StatementOps) → AreBlocksWords 
     → FitsSyntax (line_of_statement s.lines n) (syntax_of (mnemonic_of r.op)) (operand_by s.formals s.starts (block_opened_by_ops r.before) (operation_of r.op.code) r.op.operand) (actuals_by s.signatures (line_of_statement s.lines n) s.formals r.before r.op.operand)
 unfolding is_op
 run_fits s n r known named is =
-    let whole = and_parts (nat_lt r.op.code 128 && admits (takes_of r.op.code) r.op.operand) (payload_fits r.op.operand) is.op in
-    let parts = and_parts (nat_lt r.op.code 128) (admits (takes_of r.op.code) r.op.operand) whole.0 in
+    let whole = and_parts (nat_lt r.op.code 128 && admits (forms_of r.op.code) r.op.operand) (payload_fits r.op.operand) is.op in
+    let parts = and_parts (nat_lt r.op.code 128) (admits (forms_of r.op.code) r.op.operand) whole.0 in
     fits s.signatures (line_of_statement s.lines n) s.formals s.starts r.before r.op.code r.op.operand known named is.ops is.prepares (ltb-true r.op.code 128 parts.0) parts.1 whole.1 is.shown is.word
 
 label_printed : (targets : List Bool) (n : ℕ) → IsPrintedLabelOf (label_at targets n)

@@ -14,13 +14,14 @@ use Rattle.frames.specs.declared.FrameFault.TheVariants.{Depth, LocalFull}
 use Rattle.frames.specs.declared.bindings.Binding.{Binding}
 use Rattle.frames.specs.declared.frame.Frame.{Frame}
 use Rattle.flat_code.specs.declared.programs.Param.{Param}
+use Rattle.flat_code.specs.Codes.{first_found}
 use Rattle.flat_code.specs.Instr.{Passing}
 use Rattle.flat_code.specs.Loading.{Verifies}
 use Rattle.flat_code.specs.Programs.{CodeBlock, Program}
 use Rattle.image_file.specs.Readers.{block_by_id}
 use Rattle.machine.specs.Bindings.{param_bindings}
 use Rattle.machine.specs.Code.{BlockHead}
-use Rattle.machine.specs.Entering.{Stops, block_call, call_with_bindings, caller_at, di_of, entry_or_stop, called_frame as fresh_frame, activation_continued_at, instance_supplied}
+use Rattle.machine.specs.Entering.{Stops, block_call, call_with_bindings, caller_at, entry_or_stop, called_frame as fresh_frame, activation_continued_at, instance_supplied}
 use Rattle.machine.specs.Fitting.{IsOpen, HasLength, AreBound, HasInstance, FrameFits, open_in_frame}
 use Rattle.machine.specs.Flat.{code_of, block_head_of}
 use Rattle.machine.specs.ImageLaws.{ImageLaws}
@@ -80,7 +81,7 @@ local_memory_fits l p m a c verifies h kept =
 
 -- ---- a block is entered
 
-open_di : (o di : Option ℕ) (m : Areas) → IsOpen di m → IsOpen o m → IsOpen (di_of o di) m
+open_di : (o di : Option ℕ) (m : Areas) → IsOpen di m → IsOpen o m → IsOpen (first_found o di) m
 open_di None di m h is = h
 open_di (Some number) di m h is = is
 

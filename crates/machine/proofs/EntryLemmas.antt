@@ -29,7 +29,7 @@ use Rattle.flat_code.specs.Loading.{lens_of, environment_of_block}
 use Rattle.flat_code.specs.Ops.{OpData, is_op}
 use Rattle.flat_code.specs.PlacedOps.{PlacedOp, last_op}
 use Rattle.flat_code.specs.Programs.{CodeBlock, DataBlock, Program}
-use Rattle.flat_code.specs.Table.{admits, takes_of}
+use Rattle.flat_code.specs.Table.{admits, forms_of}
 use Rattle.image_file.specs.VerifiedProgram.{IsVerifiedOp, HasParam, FitsPassed, FitsPrepared, block_signatures}
 use Rattle.machine.specs.Flat.{passings_of, with_passing, numbered_bytes}
 use Rattle.machine.specs.Fitting.{SameSizes, HasLength, len_in}
@@ -163,7 +163,7 @@ literal_of :
     → actual ≡ passed.Literal value → value < 4294967296
 unfolding is_op flat_actual
 literal_of code index value actual right is =
-    let taken = and_parts (ltb code 128 && admits (takes_of code) (operand.Pass index actual)) (payload_fits (operand.Pass index actual)) right in
+    let taken = and_parts (ltb code 128 && admits (forms_of code) (operand.Pass index actual)) (payload_fits (operand.Pass index actual)) right in
     let fits = and_parts (ltb index 256) (flat_actual.fits actual) taken.1 in
     ltb-true value 4294967296 (rw is at fits.1)
 

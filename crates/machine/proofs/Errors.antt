@@ -33,11 +33,11 @@ use Rattle.flat_code.specs.declared.operations.RelayOperation.TheVariants as rel
 use Rattle.flat_code.specs.declared.operations.Operation.{Operation}
 use Rattle.flat_code.specs.declared.operations.Operation.TheVariants as operation
 use Rattle.flat_code.specs.PlacedOps.{is_empty_list, most_zones}
-use Rattle.flat_code.specs.Table.{admits, takes_of_operation, takes_timer, takes_counter}
+use Rattle.flat_code.specs.Table.{admits, forms_of_operation, takes_timer, takes_counter}
 use Rattle.machine.specs.declared.places.Access.{Access}
 use Rattle.machine.specs.declared.places.Access.TheVariants.{Reading, Writing}
 use Rattle.machine.specs.declared.places.Location.{Location}
-use Rattle.machine.specs.BitLogic.{regs_after_bit_check, put_bit, with_local_regs, bit_before, bit_assigned, assigned_at, bit_set, bit_set_at, local_memory_after_edge, local_memory_after_edge_at}
+use Rattle.machine.specs.BitLogic.{regs_after_bit_check, put_bit, with_local_regs, bit_before, bit_assigned, bit_assigned_at, bit_set, bit_set_at, local_memory_after_edge, local_memory_after_edge_at}
 use Rattle.machine.specs.DataBlocks.{is_block_loaded, block_opened_if, block_opened_by, loading_open_block}
 use Rattle.machine.specs.Effect.{effect_on_regs, on_local, on_local_memory, on_timers, on_counters, kind_of_numbered_operand, set_effect, reset_effect, enable_effect, operation_effect}
 use Rattle.machine.specs.Lasting.{is_error_code}
@@ -50,7 +50,7 @@ use Rattle.machine.specs.ExecState.{Local, LocalMemory, ExecState, then_ok}
 use Rattle.machine.specs.Places.{error_of, open_block_location, open_area_location, error_of_absent_place, location_number, number_read_at, direct_number, pointer_number, is_aligned, location_at_pointer, pointer_location, is_bit_width, is_area_p, area_location, location_in_named_area, area_crossing_location, register_address, register_location, binding_location, operand_location, no_operand}
 use Rattle.machine.specs.Pointers.{pointer_effect, address_loaded, address_transferred}
 use Rattle.machine.specs.Timing.{timer_start, timer_reset, timer_freed, counting_up, counting_down, counter_set, counter_reset, counter_freed}
-use Rattle.machine.specs.Values.{number_of_binding, operand_number, with_timer_error, is_timer_kind, bit_of_numbered, value_of_numbered, bcd_of_numbered, number_named, bit_of_number, checked_bit, load_value, bcd_loaded, stored_at, number_written_at}
+use Rattle.machine.specs.Values.{number_of_binding, operand_number, with_timer_error, is_timer_kind, bit_of_numbered, value_of_numbered, bcd_of_numbered, number_named, bit_of_number, checked_bit, load_value, bcd_loaded, number_stored_at, number_written_at}
 
 -- a code that an error may have
 abbrev pub IsKnownError : ℕ → Type 0
@@ -229,7 +229,7 @@ named_number_known _ s m has = absurd has
 
 write_known : (at : Location) (value : ℕ) (s : Local) (m : Areas) → IfKnownError (number_written_at at value s m)
 unfolding number_written_at
-write_known at value s m = or_known (stored_at at value s m) (error_of_absent_place Writing at.place.area) (absent_known Writing at.place.area)
+write_known at value s m = or_known (number_stored_at at value s m) (error_of_absent_place Writing at.place.area) (absent_known Writing at.place.area)
 
 put_known : (at : Location) (bit : Bool) (r : Regs) (s : Local) (m : Areas) → IfKnownError (put_bit at bit r s m)
 unfolding put_bit
@@ -386,7 +386,7 @@ transferred_known n o s m has = then_known (operand_location Writing o s m) _ (l
 
 assigned_known : (o : Operand) (s : Local) (m : Areas) → HasPlace s o → IfKnownError (bit_assigned o s m)
 unfolding bit_assigned
-assigned_known o s m has = then_known (operand_location Writing o s m) (λ at. assigned_at at s m) (located_known Writing o s m has) (λ at. put_known at _ _ s m)
+assigned_known o s m has = then_known (operand_location Writing o s m) (λ at. bit_assigned_at at s m) (located_known Writing o s m has) (λ at. put_known at _ _ s m)
 
 bit_set_known : (value : Bool) (o : Operand) (s : Local) (m : Areas) → HasPlace s o → IfKnownError (bit_set value o s m)
 unfolding bit_set
@@ -454,7 +454,7 @@ address_transferred_known n (operand.Numbered kind number) s m h = absurd (kind_
 address_transferred_known n (operand.NumberedBy kind from byte) s m h = absurd (kind_none kind forms.PointerPlace refl refl h)
 address_transferred_known n _ s m h = absurd cc
 
-pointed_known : (what : PointerOperation) (o : Operand) (s : Local) (m : Areas) → admits (takes_of_operation (operation.Pointer what)) o ≡ true → IfKnownError (pointer_effect what o s m)
+pointed_known : (what : PointerOperation) (o : Operand) (s : Local) (m : Areas) → admits (forms_of_operation (operation.Pointer what)) o ≡ true → IfKnownError (pointer_effect what o s m)
 unfolding pointer_effect
 pointed_known pointers.Lar1 o s m h = then_known (address_loaded o s m) _ (address_known o s m h) (λ n. tt)
 pointed_known pointers.Lar2 o s m h = then_known (address_loaded o s m) _ (address_known o s m h) (λ n. tt)
@@ -523,7 +523,7 @@ HasRoom operation.Pass brackets r = ⊥
 HasRoom _ brackets r = Unit {0}
 
 pub record Suits (v : Operation) (o : Operand) (p : ExecState) : Type 0 where
-  pub operand_admitted : admits (takes_of_operation v) o ≡ true
+  pub operand_admitted : admits (forms_of_operation v) o ≡ true
   pub has : ParamHas p.local (is_writing v) o
   pub other : goes_by_statement v o ≡ false
   pub room : HasRoom v p.local.inner.brackets p.local.inner.relay

@@ -47,7 +47,7 @@ use Rattle.flat_code.specs.OpCodes.{op_code_of as op_code}
 use Rattle.flat_code.specs.PlacedOps.{op_placed, bracket_codes, most_zones, last_op, is_empty_list as nothing}
 use Rattle.flat_code.specs.Programs.{CodeBlock, Program}
 use Rattle.flat_code.specs.Records.{section_in}
-use Rattle.flat_code.specs.Table.{admits, is_jump_form, takes_of, takes_of_operation}
+use Rattle.flat_code.specs.Table.{admits, is_jump_form, forms_of, forms_of_operation}
 use Rattle.flat_code.specs.Operations.{operation_of}
 use Rattle.image_file.specs.Readers.{is_same_id, block_by_id}
 use Rattle.image_file.specs.VerifiedProgram.{FitsCall, FitsOperand, FitsPrepared, block_signatures}
@@ -215,19 +215,19 @@ picked_start p block held (at ∷ rest) zero otherwise all other = all.0
 picked_start p block held (at ∷ rest) (suc i) otherwise all other = picked_start p block held rest i otherwise all.1 other
 
 -- what takes a jump opens and closes nothing, and prepares nothing
-jump_quiet : (v : Operation) → is_jump_form (takes_of_operation v) ≡ true → KeepsOpen v
+jump_quiet : (v : Operation) → is_jump_form (forms_of_operation v) ≡ true → KeepsOpen v
 jump_quiet (operation.Nest with) h held = absurd cc
 jump_quiet operation.Unnest h held = absurd cc
 jump_quiet (operation.Relay which) h held = absurd cc
 jump_quiet _ h held = refl
 
-takes_jump : (code kind target : ℕ) → is_op code (operand.Jump kind target) ≡ true → is_jump_form (takes_of_operation (operation_of code)) ≡ true
-unfolding is_op admits takes_of
+takes_jump : (code kind target : ℕ) → is_op code (operand.Jump kind target) ≡ true → is_jump_form (forms_of_operation (operation_of code)) ≡ true
+unfolding is_op admits forms_of
 takes_jump code kind target right =
-    let taken = and_parts (ltb code 128 && is_jump_form (takes_of_operation (operation_of code))) (payload_fits (operand.Jump kind target)) right in
-    (and_parts (ltb code 128) (is_jump_form (takes_of_operation (operation_of code))) taken.0).1
+    let taken = and_parts (ltb code 128 && is_jump_form (forms_of_operation (operation_of code))) (payload_fits (operand.Jump kind target)) right in
+    (and_parts (ltb code 128) (is_jump_form (forms_of_operation (operation_of code))) taken.0).1
 
-jump_ends : (code : ℕ) (last : Bool) → is_jump_form (takes_of_operation (operation_of code)) ≡ true → last ≡ not (prepares_statement code) → last ≡ true
+jump_ends : (code : ℕ) (last : Bool) → is_jump_form (forms_of_operation (operation_of code)) ≡ true → last ≡ not (prepares_statement code) → last ≡ true
 unfolding operation_of
 jump_ends code last h ended = by (prepares_statement code) refl ended
   where
@@ -615,11 +615,11 @@ last_right : (l : ImageLaws) (p : Program) (a : Activation) (w : GlobalStore) (a
 last_right l p a w at =
     subst (λ (z : OpData). is_op z.code z.operand ≡ true) at.here.run_end.same (l.table p at.here.statement_start.b at.here.run_end.last at.here.run_end.op)
 
-operand_admitted : (code : ℕ) (o : Operand) (v : Operation) → is_op code o ≡ true → operation_of code ≡ v → admits (takes_of_operation v) o ≡ true
-unfolding is_op takes_of
+operand_admitted : (code : ℕ) (o : Operand) (v : Operation) → is_op code o ≡ true → operation_of code ≡ v → admits (forms_of_operation v) o ≡ true
+unfolding is_op forms_of
 operand_admitted code o v right is =
-    let taken = and_parts (ltb code 128 && admits (takes_of_operation (operation_of code)) o) (payload_fits o) right in
-    rw (sym is) (and_parts (ltb code 128) (admits (takes_of_operation (operation_of code)) o) taken.0).1
+    let taken = and_parts (ltb code 128 && admits (forms_of_operation (operation_of code)) o) (payload_fits o) right in
+    rw (sym is) (and_parts (ltb code 128) (admits (forms_of_operation (operation_of code)) o) taken.0).1
 
 -- in the table the operations that write have codes that write
 abbrev all_writing : ℕ → List Operation → Bool
@@ -793,7 +793,7 @@ no_pass_last l p a w at _ is operation_is h = cc
 
 has_room :
     (l : ImageLaws) (p : Program) (a : Activation) (w : GlobalStore) (at : At p a w) (v : Operation) (o : Operand)
-    → operation_of at.here.run.last.code ≡ v → at.here.run.last.operand ≡ o → admits (takes_of_operation v) o ≡ true
+    → operation_of at.here.run.last.code ≡ v → at.here.run.last.operand ≡ o → admits (forms_of_operation v) o ≡ true
     → HasRoom v a.running.frame.brackets a.running.frame.relay
 has_room l p a w at (operation.Nest with) o is o_is h = nest_room l p a w at with is
 has_room l p a w at operation.Unnest o is o_is h = unnest_room l p a w at is
@@ -897,7 +897,7 @@ no_use_db l p b last (op ∷ ops) none all = by op.operand (ap (λ (z : OpData).
         absurd cc
     by _ is more = more
 
-opening_takes : (v : Operation) → is_opening v ≡ true → takes_of_operation v ≡ forms.Nothing
+opening_takes : (v : Operation) → is_opening v ≡ true → forms_of_operation v ≡ forms.Nothing
 opening_takes (operation.Nest with) h = refl
 opening_takes operation.Unnest h = refl
 opening_takes (operation.Relay which) h = refl

@@ -33,8 +33,8 @@ use Rattle.machine.specs.declared.places.Access.TheVariants.{Writing}
 use Rattle.machine.specs.declared.places.Location.{Location}
 use Rattle.machine.specs.ExecState.{Local, LocalMemory, ExecState, then_ok}
 use Rattle.machine.specs.Places.{operand_location, error_of_absent_place, is_area_l, pointer_number, no_operand}
-use Rattle.machine.specs.Values.{is_timer_kind, with_locals, stored_at, number_written_at}
-use Rattle.machine.specs.BitLogic.{put_bit, with_local_regs, bit_before, bit_assigned, assigned_at, bit_set, bit_set_at, local_memory_after_edge, local_memory_after_edge_at}
+use Rattle.machine.specs.Values.{is_timer_kind, with_locals, number_stored_at, number_written_at}
+use Rattle.machine.specs.BitLogic.{put_bit, with_local_regs, bit_before, bit_assigned, bit_assigned_at, bit_set, bit_set_at, local_memory_after_edge, local_memory_after_edge_at}
 use Rattle.machine.specs.Nesting.{with_open_brackets, nesting_opened, nesting_closed, bracket_closed}
 use Rattle.machine.specs.Relay.{is_writing_off, with_frame_relay, with_relay_zones, opening_zone, ending_zone, relay_effect}
 use Rattle.machine.specs.Loads.{number_transferred, local_memory_after_transfer}
@@ -118,7 +118,7 @@ pub write_keeps :
     (at : Location) (value : ℕ) (s : Local) (m : Areas) → IfDone (KeepsLocalMemory s m) (number_written_at at value s m)
 unfolding number_written_at
 write_keeps at value s m =
-    stored_if s m (stored_at at value s m) (error_of_absent_place Writing at.place.area)
+    stored_if s m (number_stored_at at value s m) (error_of_absent_place Writing at.place.area)
     (λ c is. either_stored at value s m c (is_area_l at.place.area) is)
 
 put_keeps :
@@ -132,7 +132,7 @@ put_keeps at bit r s m =
 assigned_keeps : (o : Operand) (s : Local) (m : Areas) → IfDone (KeepsLocalMemory s m) (bit_assigned o s m)
 unfolding bit_assigned
 assigned_keeps o s m =
-    then_done (KeepsLocalMemory s m) (operand_location Writing o s m) (λ at. assigned_at at s m) (λ at. put_keeps at _ _ s m)
+    then_done (KeepsLocalMemory s m) (operand_location Writing o s m) (λ at. bit_assigned_at at s m) (λ at. put_keeps at _ _ s m)
 
 set_keeps : (value : Bool) (o : Operand) (s : Local) (m : Areas) → IfDone (KeepsLocalMemory s m) (bit_set value o s m)
 unfolding bit_set

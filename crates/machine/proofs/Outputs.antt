@@ -34,8 +34,8 @@ use Rattle.machine.specs.declared.places.Access.TheVariants.{Writing}
 use Rattle.machine.specs.declared.places.Location.{Location}
 use Rattle.machine.specs.ExecState.{Local, LocalMemory, ExecState, then_ok}
 use Rattle.machine.specs.Places.{error_of_absent_place, register_address, location_at_pointer, pointer_location, error_of, open_area_location, open_block_location, is_aligned, is_bit_width, is_area_l, is_area_p, operand_location, address_moved_by, binding_location, pointer_number}
-use Rattle.machine.specs.Values.{is_timer_kind, with_locals, stored_at, number_written_at}
-use Rattle.machine.specs.BitLogic.{put_bit, with_local_regs, bit_before, bit_assigned, assigned_at, bit_set, bit_set_at, local_memory_after_edge, local_memory_after_edge_at}
+use Rattle.machine.specs.Values.{is_timer_kind, with_locals, number_stored_at, number_written_at}
+use Rattle.machine.specs.BitLogic.{put_bit, with_local_regs, bit_before, bit_assigned, bit_assigned_at, bit_set, bit_set_at, local_memory_after_edge, local_memory_after_edge_at}
 use Rattle.machine.specs.Copies.{is_copied_in, instance_parameter_location, local_memory_or, number_stored, number_copied, actual_copied_to, param_in, params_copied_in}
 use Rattle.machine.specs.Relay.{is_writing_off, relay_effect}
 use Rattle.machine.specs.Loads.{number_transferred, local_memory_after_transfer}
@@ -134,7 +134,7 @@ pub write_stays :
     → IfDone (MemoryStays m) (number_written_at at value s m)
 unfolding number_written_at
 write_stays at value s m inside =
-    stored_if m (stored_at at value s m) (error_of_absent_place Writing at.place.area)
+    stored_if m (number_stored_at at value s m) (error_of_absent_place Writing at.place.area)
     (λ c is. either_stored at value s m c (is_area_l at.place.area) inside is)
 
 put_stays :
@@ -226,7 +226,7 @@ assigned_stays :
     → IfDone (MemoryStays m) (bit_assigned o s m)
 unfolding bit_assigned
 assigned_stays o s m h =
-    done_then IsPlacedInside (MemoryStays m) (operand_location Writing o s m) (λ at. assigned_at at s m)
+    done_then IsPlacedInside (MemoryStays m) (operand_location Writing o s m) (λ at. bit_assigned_at at s m)
     (located_inside Writing o s m h) (λ at inside. put_stays at _ _ s m inside)
 
 set_stays :

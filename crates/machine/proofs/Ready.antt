@@ -17,7 +17,7 @@ use Rattle.flat_code.specs.Instr.{Does, Passing}
 use Rattle.flat_code.specs.Kinds.{jump_of_number}
 use Rattle.flat_code.specs.Loading.{Verifies}
 use Rattle.flat_code.specs.Ops.{OpData, is_op}
-use Rattle.flat_code.specs.Table.{admits, takes_of}
+use Rattle.flat_code.specs.Table.{admits, forms_of}
 use Rattle.flat_code.specs.PlacedOps.{op_placed, line_placed, code_places}
 use Rattle.flat_code.specs.Programs.{CodeBlock, Program}
 use Rattle.flat_code.specs.Operations.{operation_of}
@@ -27,7 +27,7 @@ use Rattle.flat_code.specs.declared.operations.CallOperation.{CallOperation}
 use Rattle.flat_code.specs.declared.operations.Operation.{Operation}
 use Rattle.flat_code.specs.declared.operations.Operation.TheVariants as operation
 use Rattle.image_file.specs.Readers.{block_by_id}
-use Rattle.image_file.specs.VerifiedProgram.{placed_at, IsVerifiedOp, IsReaderOp, OpsArePlaced, OpsAreOfTable, FitsCall, CallsFit, IsCalledBlock, CalledAreThere, block_signatures}
+use Rattle.image_file.specs.VerifiedProgram.{placed_op_at, IsVerifiedOp, IsReaderOp, OpsArePlaced, OpsAreOfTable, FitsCall, CallsFit, IsCalledBlock, CalledAreThere, block_signatures}
 use Rattle.machine.specs.Code.{Code, BlockHead}
 use Rattle.machine.specs.Fitting.{OpenCodes, FrameFits, FramesFit, FitsBlock, ActivationFits}
 use Rattle.flat_code.specs.Forms.{is_callable_number, kind_of_code, payload_fits}
@@ -116,7 +116,7 @@ sfc_there p kind number called e h =
 pub kind_callable : (code kind number instance : ℕ) → is_op code (operand.Called kind number instance) ≡ true → is_callable_number kind ≡ true
 unfolding is_op
 kind_callable code kind number instance right =
-    let fits = (and_parts (ltb code 128 && admits (takes_of code) (operand.Called kind number instance)) (payload_fits (operand.Called kind number instance)) right).1 in
+    let fits = (and_parts (ltb code 128 && admits (forms_of code) (operand.Called kind number instance)) (payload_fits (operand.Called kind number instance)) right).1 in
     let first = (and_parts (ltb kind 256 && is_callable_number kind) (ltb number 65536 && ltb instance 65536) fits).0 in
     (and_parts (ltb kind 256) (is_callable_number kind) first).1
 
@@ -148,7 +148,7 @@ last_calls :
     → CallsThere p b op.operand
 last_calls p own b from next op verifies placed_law table_law calls_law called_law block placed kind number instance k o is =
     let read : IsReaderOp b.code from op next = placed_law b.code from op next placed
-    in let there : placed_at read.here.at (code_places b.code) ≡ Some read.here = ap (λ z. placed_at z (code_places b.code)) read.offset ∙ read.place
+    in let there : placed_op_at read.here.at (code_places b.code) ≡ Some read.here = ap (λ z. placed_op_at z (code_places b.code)) read.offset ∙ read.place
     in let isop : IsVerifiedOp p b read.here = record { verifies = verifies; id = own; block = block; place = there }
     in let fit : FitsCall p read.here kind number instance =
     calls_law p b read.here kind number instance isop (ap (λ (z : OpData). z.operand) read.op_is ∙ o)

@@ -18,7 +18,7 @@ use Rattle.flat_code.specs.PlacedOps.{PlacedOp, ops_placed, code_places, op_plac
 use Rattle.flat_code.specs.Programs.{CodeBlock, Program}
 use Rattle.flat_code.specs.Operations.{operation_of}
 use Rattle.image_file.specs.Readers.{block_by_id}
-use Rattle.image_file.specs.VerifiedProgram.{placed_at, IsVerifiedOp, HasNext}
+use Rattle.image_file.specs.VerifiedProgram.{placed_op_at, IsVerifiedOp, HasNext}
 use Rattle.machine.specs.Flat.{OpRun, op_run_at, with_op, fetched_of, statement_fetched, code_of}
 use Rattle.machine.specs.ImageLaws.{ImageLaws}
 use Rattle.machine.specs.Fitting.{OpenAt}
@@ -28,7 +28,7 @@ use Rattle.machine.proofs.OpenBehind.{same_open, prepared_same, prepared_zones, 
 
 -- ---- ops in their places
 
-pub op_here : (from : ℕ) (brackets : List OpenBracket) (zones : List ℕ) (before ops : List OpData) (at : ℕ) (q : PlacedOp) → placed_at at (ops_placed from brackets zones before ops) ≡ Some q → op_placed from ops at ≡ Some (q.op, q.at + size_of_op q.op)
+pub op_here : (from : ℕ) (brackets : List OpenBracket) (zones : List ℕ) (before ops : List OpData) (at : ℕ) (q : PlacedOp) → placed_op_at at (ops_placed from brackets zones before ops) ≡ Some q → op_placed from ops at ≡ Some (q.op, q.at + size_of_op q.op)
 op_here from brackets zones before [] at q found = absurd cc
 op_here from brackets zones before (o ∷ ops) at q found =
     by (eqb from at) found
@@ -38,7 +38,7 @@ op_here from brackets zones before (o ∷ ops) at q found =
     here = record { at = from; brackets = brackets; zones = zones; before = before; op = o; rest = ops }
 
     behind : Option PlacedOp
-    behind = placed_at at (ops_placed (from + size_of_op o) (brackets_after from o.code brackets) (zones_behind_op from o.code zones) (before_next o before) ops)
+    behind = placed_op_at at (ops_placed (from + size_of_op o) (brackets_after from o.code brackets) (zones_behind_op from o.code zones) (before_next o before) ops)
 
     by : (t : Bool) → cond t (Some here) behind ≡ Some q → (behind ≡ Some q → op_placed (from + size_of_op o) ops at ≡ Some (q.op, q.at + size_of_op q.op)) → cond t (Some (o, from + size_of_op o)) (op_placed (from + size_of_op o) ops at) ≡ Some (q.op, q.at + size_of_op q.op)
     by true e more = ap (λ (z : PlacedOp). Some (z.op, z.at + size_of_op z.op)) (same_Some here q e)
@@ -225,14 +225,14 @@ pub opens_there :
     (p : Program) (block : BlockId) (at : ℕ) (held : OpenAt) → IsStatementStart p block at held
     → open_codes p block at ≡ Some held
 opens_there p block at held s =
-    let place : placed_at at (code_places s.b.code) ≡ Some s.q = ap (λ (k : ℕ). placed_at k (code_places s.b.code)) (sym s.offset) ∙ s.op.place in
+    let place : placed_op_at at (code_places s.b.code) ≡ Some s.q = ap (λ (k : ℕ). placed_op_at k (code_places s.b.code)) (sym s.offset) ∙ s.op.place in
     rw (s.found, place, s.begun) (ap (λ (z : OpenAt). Some z) s.same)
 
-place_offset : (qs : List PlacedOp) (at : ℕ) (q : PlacedOp) → placed_at at qs ≡ Some q → q.at ≡ at
+place_offset : (qs : List PlacedOp) (at : ℕ) (q : PlacedOp) → placed_op_at at qs ≡ Some q → q.at ≡ at
 place_offset [] at q found = absurd cc
 place_offset (p ∷ qs) at q found = by (eqb p.at at) refl found (λ e. place_offset qs at q e)
   where
-    by : (t : Bool) → eqb p.at at ≡ t → cond t (Some p) (placed_at at qs) ≡ Some q → (placed_at at qs ≡ Some q → q.at ≡ at) → q.at ≡ at
+    by : (t : Bool) → eqb p.at at ≡ t → cond t (Some p) (placed_op_at at qs) ≡ Some q → (placed_op_at at qs ≡ Some q → q.at ≡ at) → q.at ≡ at
     by true is e more = sym (ap (λ (z : PlacedOp). z.at) (same_Some p q e)) ∙ eqb-true p.at at is
     by false is e more = more e
 
@@ -241,7 +241,7 @@ pub statement_start_there :
     → IsStatementStart p block at held
 statement_start_there p block at held verifies h = by_block (block_by_id block p.code_blocks) refl h
   where
-    begun : (b : CodeBlock) (q : PlacedOp) (t : Bool) → block_by_id block p.code_blocks ≡ Some b → placed_at at (code_places b.code) ≡ Some q → begins_its_statement q ≡ t
+    begun : (b : CodeBlock) (q : PlacedOp) (t : Bool) → block_by_id block p.code_blocks ≡ Some b → placed_op_at at (code_places b.code) ≡ Some q → begins_its_statement q ≡ t
         → cond t (Some (open_at q)) None ≡ Some held → IsStatementStart p block at held
     begun b q true found place is e =
         let offset = place_offset (code_places b.code) at q place in
@@ -253,7 +253,7 @@ statement_start_there p block at held verifies h = by_block (block_by_id block p
             verifies = verifies;
             id = block;
             block = found;
-            place = ap (λ (k : ℕ). placed_at k (code_places b.code)) offset ∙ place;
+            place = ap (λ (k : ℕ). placed_op_at k (code_places b.code)) offset ∙ place;
           };
           offset = offset;
           begun = is;
@@ -261,13 +261,13 @@ statement_start_there p block at held verifies h = by_block (block_by_id block p
         }
     begun b q false found place is e = absurd cc
 
-    by_place : (b : CodeBlock) (o : Option PlacedOp) → block_by_id block p.code_blocks ≡ Some b → placed_at at (code_places b.code) ≡ o → open_before o ≡ Some held → IsStatementStart p block at held
+    by_place : (b : CodeBlock) (o : Option PlacedOp) → block_by_id block p.code_blocks ≡ Some b → placed_op_at at (code_places b.code) ≡ o → open_before o ≡ Some held → IsStatementStart p block at held
     by_place b None found place e = absurd cc
     by_place b (Some q) found place e = begun b q (begins_its_statement q) found place refl e
 
     by_block : (o : Option CodeBlock) → block_by_id block p.code_blocks ≡ o → option_and_then (λ b. open_in b at) o ≡ Some held → IsStatementStart p block at held
     by_block None found e = absurd cc
-    by_block (Some b) found e = by_place b (placed_at at (code_places b.code)) found refl e
+    by_block (Some b) found e = by_place b (placed_op_at at (code_places b.code)) found refl e
 
 -- ---- where a statement leads
 
@@ -303,7 +303,7 @@ target_start l p block at held s kind target is =
         verifies = s.run_end.op.verifies;
         id = s.run_end.op.id;
         block = s.run_end.op.block;
-        place = ap (λ (k : ℕ). placed_at k (code_places s.statement_start.b.code)) lands.offset ∙ lands.place;
+        place = ap (λ (k : ℕ). placed_op_at k (code_places s.statement_start.b.code)) lands.offset ∙ lands.place;
       };
       offset = lands.offset;
       begun = lands.statement;
@@ -329,7 +329,7 @@ entry_start l p block b verifies found =
         verifies = verifies;
         id = block;
         block = found;
-        place = ap (λ (k : ℕ). placed_at k (code_places b.code)) begun.offset ∙ begun.place;
+        place = ap (λ (k : ℕ). placed_op_at k (code_places b.code)) begun.offset ∙ begun.place;
       };
       offset = begun.offset;
       begun = begun.statement;

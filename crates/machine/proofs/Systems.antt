@@ -42,7 +42,7 @@ use Rattle.machine.specs.ExecState.{Local, LocalMemory, local_of, then_ok}
 use Rattle.machine.specs.Places.{is_area_l, location_number}
 use Rattle.machine.specs.Statement.{GlobalStore, after_system_call, system_call_made}
 use Rattle.machine.specs.SystemCalls.{system_call_arguments, input_of, inputs_from, result_from, system_call, system_function}
-use Rattle.machine.specs.Values.{with_locals, stored_at}
+use Rattle.machine.specs.Values.{with_locals, number_stored_at}
 use Rattle.machine.proofs.BindingLemmas.{PassingsFit, is_among, bound_of}
 use Rattle.machine.proofs.CallLemmas.{Caller, caller, function_bound, caller_binds, caller_known, going_fits}
 use Rattle.machine.proofs.Errors.{IfKnownError}
@@ -108,7 +108,7 @@ writable m place width value w there =
 
 stored_there :
     (frames : List Frame) (m : Areas) (at : Location) (value : ℕ) (s : Local) → LocalsFit frames s.locals → Written m
-    → ExistsIn at.place.area at frames m → IsSome (stored_at at value s m)
+    → ExistsIn at.place.area at frames m → IsSome (number_stored_at at value s m)
 stored_there frames m at value s fits w exists = by at.place.area exists
   where
     in_memory : IsSome (number_at_place m at.place at.width)

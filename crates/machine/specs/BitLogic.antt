@@ -41,12 +41,12 @@ bit_before at s m =
 
 -- =: the RLO, and 0 while the master control relay is closed, written to the bit at a place and to
 -- STA
-abbrev pub assigned_at : Location → Local → Areas → Result LocalMemory ℕ
-assigned_at at s m = put_bit at (power_flow s) (after_store (power_flow s) s.regs) s m
+abbrev pub bit_assigned_at : Location → Local → Areas → Result LocalMemory ℕ
+bit_assigned_at at s m = put_bit at (power_flow s) (after_store (power_flow s) s.regs) s m
 
 -- = of an operand, whose place is sought as one that is written, whatever is written
 unfoldable pub bit_assigned : Operand → Local → Areas → Result LocalMemory ℕ
-bit_assigned o s m = then_ok (operand_location Writing o s m) (λ at. assigned_at at s m)
+bit_assigned o s m = then_ok (operand_location Writing o s m) (λ at. bit_assigned_at at s m)
 
 -- the value of a bit after S (value 1) or R (value 0): with RLO 0, and while the master control
 -- relay is closed, it stays

@@ -10,6 +10,7 @@ use Rattle.frames.specs.declared.FrameFault.{FrameFault}
 use Rattle.frames.specs.declared.bindings.Binding.{Binding}
 use Rattle.frames.specs.declared.frame.Frame.{Frame}
 use Rattle.flat_code.specs.declared.programs.Param.{Param}
+use Rattle.flat_code.specs.Codes.{first_found}
 use Rattle.flat_code.specs.Instr.{Passing}
 use Rattle.machine.specs.ExecState.{LocalMemory, local_of, local_memory_of, with_local}
 use Rattle.machine.specs.Bindings.{param_bindings}
@@ -31,18 +32,13 @@ pub record CalledBlock : Type 0 where
   -- the declared parameters of the block, by their index
   pub params : List Param
 
--- the DI register of the called block: the instance, else the caller's
-abbrev pub di_of : (instance di : Option ℕ) → Option ℕ
-di_of None di = di
-di_of (Some instance) di = Some instance
-
--- the frame of the called block: it begins with the caller's data blocks, no open bracket, and its
--- own relay, which is inactive
+-- the frame of the called block: it begins with the caller's data blocks, but the instance, if one
+-- is named, in the DI register; with no open bracket, and its own relay, which is inactive
 abbrev pub called_frame : CalledBlock → List Binding → Frame → Frame
 called_frame called bindings caller =
     record (frame_begun called.block called.local_len) {
       db = caller.db;
-      di = di_of called.instance caller.di;
+      di = first_found called.instance caller.di;
       instance = called.instance;
       bindings = bindings;
     }
@@ -68,14 +64,15 @@ pub data Call : Type 0 where
   Enters : (a : Activation) (m : Areas) → Call
 
 -- the called block runs, with what copying its parameters left of it and of memory
-abbrev pub entered_with_parameters : Activation → LocalMemory → Call
-entered_with_parameters a c = Enters (record a { running = with_local a.running c.local }) c.memory
+abbrev pub block_entered_with_parameters : Activation → LocalMemory → Call
+block_entered_with_parameters a c =
+    Enters (record a { running = with_local a.running c.local }) c.memory
 
 -- IN and IN_OUT parameters are copied into the instance; a call that names none copies nothing
 abbrev pub instance_supplied : Option ℕ → List Param → Activation → Areas → Call
 instance_supplied None params a m = Enters a m
 instance_supplied (Some instance) params a m =
-    entered_with_parameters a
+    block_entered_with_parameters a
     (params_copied_in params 0 a.running.frame.bindings instance (local_memory_of a.running m))
 
 -- a stop by depth or local data sets and copies nothing; else the caller stands behind the call

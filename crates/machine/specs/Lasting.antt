@@ -18,7 +18,7 @@ use Rattle.flat_code.specs.Records.{section_in}
 use Rattle.machine.specs.ExecState.{local_of}
 use Rattle.machine.specs.declared.outcomes.Outcome.{Outcome}
 use Rattle.machine.specs.declared.outcomes.Outcome.TheVariants as outcome
-use Rattle.machine.specs.Values.{stored_at}
+use Rattle.machine.specs.Values.{number_stored_at}
 use Rattle.machine.specs.Fitting.{IsMemoryOf, SameSizes, ActivationFits}
 use Rattle.machine.specs.Flat.{code_of}
 use Rattle.machine.specs.OpenBrackets.{open_codes}
@@ -62,7 +62,7 @@ abbrev pub TakesResult : Option Binding → Activation → Areas → Type 0
 TakesResult None a m = Unit {0}
 TakesResult (Some (binding.AtPlace place width frame)) a m =
     (value : ℕ)
-    → IsSome (stored_at (record { place = place; width = width; frame = frame }) value
+    → IsSome (number_stored_at (record { place = place; width = width; frame = frame }) value
     (local_of a.running) m)
 TakesResult (Some result) a m = ⊥
 

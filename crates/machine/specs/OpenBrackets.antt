@@ -9,7 +9,7 @@ use Rattle.flat_code.specs.declared.operations.Operation.TheVariants as operatio
 use Rattle.flat_code.specs.PlacedOps.{PlacedOp, code_places, begins_its_statement, bracket_codes}
 use Rattle.flat_code.specs.Programs.{CodeBlock, Program}
 use Rattle.image_file.specs.Readers.{block_by_id}
-use Rattle.image_file.specs.VerifiedProgram.{placed_at}
+use Rattle.image_file.specs.VerifiedProgram.{placed_op_at}
 use Rattle.machine.specs.Fitting.{OpenAt, OpenCodes}
 
 -- the function code of a bracket by the op that opens it
@@ -38,7 +38,7 @@ open_before (Some q) = if begins_its_statement q then Some (open_at q) else None
 -- what stands open before the statement of a block that begins at an offset; None where none begins
 -- there
 abbrev pub open_in : CodeBlock → (at : ℕ) → Option OpenAt
-open_in b at = open_before (placed_at at (code_places b.code))
+open_in b at = open_before (placed_op_at at (code_places b.code))
 
 -- what stands open before each statement of the blocks of a program, by block and offset in its
 -- code

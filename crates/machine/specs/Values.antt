@@ -112,8 +112,8 @@ with_locals s l = record s { locals = l }
 
 -- a running block and memory with a number at a place in the local bytes of a frame or in memory;
 -- None where the place doesn't exist
-abbrev pub stored_at : Location → ℕ → Local → Areas → Option LocalMemory
-stored_at at value s m =
+abbrev pub number_stored_at : Location → ℕ → Local → Areas → Option LocalMemory
+number_stored_at at value s m =
     if is_area_l at.place.area
     then option_map (λ l. record { local = with_locals s l; memory = m })
     (local_written s.locals at.frame at.place.byte at.place.bit at.width value)
@@ -124,4 +124,4 @@ stored_at at value s m =
 -- where it doesn't exist
 unfoldable pub number_written_at : Location → ℕ → Local → Areas → Result LocalMemory ℕ
 number_written_at at value s m =
-    ok_or (stored_at at value s m) (error_of_absent_place Writing at.place.area)
+    ok_or (number_stored_at at value s m) (error_of_absent_place Writing at.place.area)

@@ -3,7 +3,7 @@ ghost use Rattle.std.specs.Prelude.{◌≡◌, ◌<◌};
 ghost use Rattle.machine.specs.ExecState.{local_of, then_ok};
 ghost use Rattle.machine.specs.Outcomes.{ChangesLocalMemory, ChangesRunningRegs};
 ghost use Rattle.status_word.specs.StatusNumber.{bit_as_number as number_of_bit};
-ghost use Rattle.machine.specs.BitLogic.{regs_after_bit_check, put_bit as put_bit_of, bit_before as bit_before_of, bit_after_set as bit_after_of, bit_assigned, assigned_at, bit_set_at as set_at_of, bit_set as bit_set_of, local_memory_after_edge as edge_of};
+ghost use Rattle.machine.specs.BitLogic.{regs_after_bit_check, put_bit as put_bit_of, bit_before as bit_before_of, bit_after_set as bit_after_of, bit_assigned, bit_assigned_at, bit_set_at as set_at_of, bit_set as bit_set_of, local_memory_after_edge as edge_of};
 
 use crate::places::{Access, Location, area_location, location_number, operand_location};
 use crate::relay::power_flow;
@@ -70,7 +70,7 @@ fn put_bit(at: &Location, bit: bool, regs: Regs, s: &mut Running, m: &mut Memory
 #[tactic(auto, unfolding(crate::specs::BitLogic::put_bit))]
 #[inline(always)]
 fn assign_at(at: &Location, s: &mut Running, m: &mut Memory) -> Result<(), u8>
-    ensures { ChangesLocalMemory (assigned_at at.now (local_of s.old) m.old)
+    ensures { ChangesLocalMemory (bit_assigned_at at.now (local_of s.old) m.old)
         s.old s.new m.old m.new result }
 {
     let value = power_flow(s);

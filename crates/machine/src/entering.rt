@@ -1,7 +1,8 @@
 //! CALL, UC and CC of a function or function block.
 ghost use Rattle.std.specs.Prelude.{◌≡◌, ◌<◌, ◌≤◌, length, None};
 ghost use Rattle.frames.specs.Activations.{block_entered, entry_fault, frames_of};
-ghost use Rattle.machine.specs.Entering.{at_block as at_block_of, di_of as di_of_instance, called_frame as fresh_of, caller_at, instance_supplied, entry_or_stop, Enters, LeavesCall};
+ghost use Rattle.flat_code.specs.Codes.{first_found};
+ghost use Rattle.machine.specs.Entering.{at_block as at_block_of, called_frame as fresh_of, caller_at, instance_supplied, entry_or_stop, Enters, LeavesCall};
 
 use crate::copies::copy_params_in;
 use flat_code::Param;
@@ -43,9 +44,9 @@ pub(crate) fn at_block(r: &mut Regs)
     r.status.fc = false;
 }
 
-// The DI register of the called block.
+// The DI register of the called block: the instance, else the caller's.
 fn di_of(instance: Option<u16>, di: Option<u16>) -> Option<u16>
-    ensures { result ≡ di_of_instance instance di }
+    ensures { result ≡ first_found instance di }
 {
     match instance {
         None => di,

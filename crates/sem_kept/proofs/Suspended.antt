@@ -26,11 +26,11 @@ use Rattle.controller.specs.Beginning.{ob_activation, with_ob_begun}
 use Rattle.controller.specs.Errors.{is_synchronous, error_in, error_ob_started, error_raised}
 use Rattle.controller.specs.Event.{entry_counted, entry_effect, state_after}
 use Rattle.controller.specs.Replay.{entry_result, replay, ContinuesReplay}
-use Rattle.controller.specs.Requests.{stopped_if, tick_state_taken, arrival_served}
+use Rattle.controller.specs.Requests.{state_stopped_if, tick_state_taken, arrival_served}
 use Rattle.controller.specs.Serving.{ServiceResult, Returns, Passes, Stops, system_function_served, result_given, after_service}
 use Rattle.controller.specs.Settling.{may_start, request_taken, request_started, best_started, after_settling}
-use Rattle.controller.specs.Start.{warm_restarted}
-use Rattle.controller.specs.State.{State, is_stop, diagnosis_recorded, each_diagnosed}
+use Rattle.controller.specs.Start.{state_after_warm_restart}
+use Rattle.controller.specs.State.{State, is_stop, diagnosis_recorded, diagnoses_recorded}
 use Rattle.controller.specs.Stepping.{with_activations, run_starts, ob_ended, after_statement, step_of_first, after_step}
 use Rattle.controller.specs.Stopping.{spot_of_frame, stop_entered_at, stop_entered}
 use Rattle.controller.specs.Ticking.{timers_moved, active_obs, time_passed}
@@ -205,13 +205,13 @@ stepped_keeps code s place there on =
 -- ---- requests and time
 
 each_same : (records : List (ℕ × ℕ)) (s : State)
-    → (each_diagnosed records s).activations ≡ s.activations
+    → (diagnoses_recorded records s).activations ≡ s.activations
 each_same [] s = refl
 each_same (one ∷ rest) s = each_same rest (diagnosis_recorded one.0 one.1 s)
 
 stopped_keeps : (code : Code) (cause : Option ℕ) (s : State) (place : ℕ)
-    → place < length s.activations → is_stop (stopped_if code cause s).mode ≡ false
-    → Keeps s.activations (stopped_if code cause s).activations place
+    → place < length s.activations → is_stop (state_stopped_if code cause s).mode ≡ false
+    → Keeps s.activations (state_stopped_if code cause s).activations place
 unfolding stop_entered
 stopped_keeps code None s place there on = stays s.activations place there
 stopped_keeps code (Some cause) s place there on = absurd cc
@@ -220,7 +220,7 @@ course_keeps : (code : Code) (c : TickState) (s : State) (place : ℕ)
     → place < length s.activations → is_stop (tick_state_taken code c s).mode ≡ false
     → Keeps s.activations (tick_state_taken code c s).activations place
 course_keeps code c s place there on =
-    let recorded : State = each_diagnosed c.passed.records.items (record s { sched = c.sched }) in
+    let recorded : State = diagnoses_recorded c.passed.records.items (record s { sched = c.sched }) in
     let same : recorded.activations ≡ s.activations =
     each_same c.passed.records.items (record s { sched = c.sched }) in
     subst (λ (acts : List Activation). Keeps acts (tick_state_taken code c s).activations place) same
@@ -267,7 +267,7 @@ asked_keeps code request.Stop s place runs there on = by (is_stop s.mode) on
 asked_keeps code request.Restart s place runs there on = by (is_stop s.mode) runs
   where
     by : (b : Bool) → b ≡ false
-        → Keeps s.activations (if b then warm_restarted code s else s).activations place
+        → Keeps s.activations (if b then state_after_warm_restart code s else s).activations place
     by true runs = absurd cc
     by false runs = stays s.activations place there
 asked_keeps code (request.MonitorOn block) s place runs there on = by (is_some (code.head block))

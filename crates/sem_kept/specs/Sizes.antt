@@ -1,20 +1,13 @@
 -- That a program is small enough for an image.
-use Rattle.std.specs.Prelude.{◌≡◌, ℕ, ◌≤◌, ◌<◌, true, List, [], length}
+use Rattle.std.specs.Prelude.{◌≡◌, ℕ, ◌≤◌, true, List, [], length}
 use Rattle.std.specs.List.{AllByRecursion}
 use Rattle.flat_code.specs.Checking.{good_blocks, good_counts, good_datas, good_names, image_size}
-use Rattle.flat_code.specs.Codes.{code_bytes}
 use Rattle.flat_code.specs.Image.{IsProgram}
-use Rattle.flat_code.specs.Programs.{CodeBlock, Program}
+use Rattle.flat_code.specs.Programs.{Program}
+use Rattle.image_file.specs.Writing.{BlockFitsFields}
 use Rattle.stl_ast.specs.declared.blocks.Tree.{Tree}
 use Rattle.stl_symbols.specs.Symbol.{Symbol}
 use Rattle.sem_kept.specs.AcceptedSource.{IsAccepted, program_in}
-
--- a code block's statements and code bytes fit their fields
-pub record IsSmallBlock (b : CodeBlock) : Type 0 where
-  -- the number of its statements, each with its line, fits 16 bits
-  pub lines : length b.lines < 65536
-  -- the number of its code bytes fits 32 bits
-  pub code : length (code_bytes b.code) < 4294967296
 
 -- a program's counts and code blocks fit their fields, and its image has at most 8,388,608 bytes
 pub record IsSmall (p : Program) : Type 0 where
@@ -23,7 +16,7 @@ pub record IsSmall (p : Program) : Type 0 where
   -- its image isn't too long
   pub short : image_size p ≤ 8388608
   -- the statements and code bytes of each code block fit their fields
-  pub blocks : AllByRecursion IsSmallBlock p.code_blocks
+  pub blocks : AllByRecursion BlockFitsFields p.code_blocks
 
 -- the program of an accepted source is small enough for an image
 abbrev pub AcceptedIsSmall : Type 0

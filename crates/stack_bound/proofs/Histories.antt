@@ -38,11 +38,11 @@ use Rattle.controller.specs.Errors.{is_synchronous, cause_without, error_event, 
 use Rattle.controller.specs.Event.{entry_counted, entry_effect, state_after}
 use Rattle.controller.specs.Fitting.{AllFit, AreInRange, EntriesKeepFit, IsFit, StartIsFit}
 use Rattle.controller.specs.Replay.{entry_result, state_after_entries, replay}
-use Rattle.controller.specs.Requests.{stopped_if, tick_state_taken, arrival_served}
+use Rattle.controller.specs.Requests.{state_stopped_if, tick_state_taken, arrival_served}
 use Rattle.controller.specs.Serving.{ServiceResult, Returns, Passes, Stops as Halts, in_parameter, system_function_served, result_given, after_service}
 use Rattle.controller.specs.Settling.{may_start, request_taken, request_started, best_started, after_settling}
-use Rattle.controller.specs.Start.{before_start, restart_cleared, warm_restarted, initial_state, state_in_startup, startup_info, startup_ob}
-use Rattle.controller.specs.State.{State, is_stop, diagnosis_recorded, each_diagnosed}
+use Rattle.controller.specs.Start.{before_start, restart_cleared, state_after_warm_restart, initial_state, state_in_startup, startup_info, startup_ob}
+use Rattle.controller.specs.State.{State, is_stop, diagnosis_recorded, diagnoses_recorded}
 use Rattle.controller.specs.Stepping.{after_step, step_of_first, after_statement, run_starts, ob_ended, with_activations}
 use Rattle.controller.specs.Stopping.{stop_entered, stop_entered_at, running_spot, spot_of_frame}
 use Rattle.controller.specs.Ticking.{active_obs, time_passed, timers_moved}
@@ -112,7 +112,7 @@ begins_room z c (Some a) s one b = record { profile = b.profile; room = (one, b.
 -- ---- records and stops
 
 each_bounded : (z : Profile) (c : List Bound) (records : List (ℕ × ℕ)) (s : State) → Bounded z c s
-    → Bounded z c (each_diagnosed records s)
+    → Bounded z c (diagnoses_recorded records s)
 each_bounded z c [] s b = b
 each_bounded z c (one ∷ rest) s b =
     each_bounded z c rest (diagnosis_recorded one.0 one.1 s) (record { profile = b.profile; room = b.room; mode = b.mode })
@@ -346,7 +346,7 @@ either_bounded z c false s t one other = other
 -- ---- arrivals and passing time
 
 stopped_bounded : (z : Profile) (code : Code) (c : List Bound) (cause : Option ℕ) (s : State) → NoOverflow cause
-    → Bounded z c s → Bounded z c (stopped_if code cause s)
+    → Bounded z c s → Bounded z c (state_stopped_if code cause s)
 stopped_bounded z code c None s fine b = b
 stopped_bounded z code c (Some cause) s fine b = halted_bounded z code c cause s b.profile fine
 
@@ -354,7 +354,7 @@ tick_state_bounded : (z : Profile) (code : Code) (c : List Bound) (tick : TickSt
     → NoOverflow tick.passed.stop → Bounded z c s → Bounded z c (tick_state_taken code tick s)
 tick_state_bounded z code c tick s fine b =
     stopped_bounded z code c tick.passed.stop
-    (each_diagnosed tick.passed.records.items (record s { sched = tick.sched })) fine
+    (diagnoses_recorded tick.passed.records.items (record s { sched = tick.sched })) fine
     (each_bounded z c tick.passed.records.items (record s { sched = tick.sched })
     (record { profile = b.profile; room = b.room; mode = b.mode }))
 
@@ -384,8 +384,8 @@ started_bounded z c (Some a) s one b = record { profile = b.profile; room = (one
 -- ---- requests of operators
 
 restarted_bounded : (z : Profile) (code : Code) (c : List Bound) (s : State) → Certifies z code c
-    → Bounded z c s → Bounded z c (warm_restarted code s)
-unfolding warm_restarted
+    → Bounded z c s → Bounded z c (state_after_warm_restart code s)
+unfolding state_after_warm_restart
 restarted_bounded z code c s holds b =
     started_bounded z c (startup_ob s.profile code) (restart_cleared (diagnosis_recorded 6 0 s))
     (subst (λ (f : Profile). RoomIf z c (startup_ob f code)) (sym b.profile)

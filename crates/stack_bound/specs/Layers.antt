@@ -79,7 +79,7 @@ abbrev pub layer_of_height : ℕ → Program → List Bound
 layer_of_height zero p = []
 layer_of_height (suc k) p = layer_above p (layer_of_height k p)
 
--- no number of a bound is above another one
+-- neither number of a bound is above the given one
 abbrev pub IsBoundAtMost : ℕ → Bound → Type 0
 IsBoundAtMost n b = (b.depth ≤ n) × (b.bytes ≤ n)
 

@@ -165,7 +165,7 @@ pub assign_same : (x : NamedItem) (p : ExecState) → is_place_to_write x ≡ tr
     → effect.operation_effect operation.Assign (flat_of x) p ≡ own.assigns_power_flow x p
 unfolding effect.operation_effect bit_logic.bit_assigned
 assign_same x p e =
-    seek_same x p (λ b. bit_logic.assigned_at b p.local p.memory)
+    seek_same x p (λ b. bit_logic.bit_assigned_at b p.local p.memory)
     (λ b. own.writes_bit b (own.power_flow_of p) (after_store (own.power_flow_of p) p.local.regs) p) e
     (λ b. put_same b (own.power_flow_of p) (after_store (own.power_flow_of p) p.local.regs) p)
 

@@ -173,7 +173,7 @@ pub written_same : (b : Location) (n : ℕ) (p : ExecState)
     → on_local_memory p (values.number_written_at b n p.local p.memory) ≡ own.with_number_at b n p
 unfolding values.number_written_at own.with_number_at
 written_same b n p =
-    by (values.stored_at b n p.local p.memory)
+    by (values.number_stored_at b n p.local p.memory)
     ∙ ap₂ ok_or (written_in_same b.place.area b n p) (absent_same Writing b.place.area)
   where
     by : (o : Option LocalMemory)

@@ -49,7 +49,7 @@ use Rattle.statement_laws.specs.NamedOperands.{NamedItem, ItemNumber, OpenBlockF
 use Rattle.statement_laws.specs.NamedOperands as named
 use Rattle.statement_laws.specs.Operands.{number_of_block_name, named_fixed_place, item_named_by, numbered_item, named_place, place_by, place_in_db, pointer_constant_bits, register_named, symbol_target, target_named}
 use Rattle.statement_laws.specs.Operands as own
-use Rattle.statement_laws.specs.Reading.{bits_of_literal, number_behind, twos_complement, number_or_zero}
+use Rattle.statement_laws.specs.Reading.{bits_of_literal, number_behind, twos_complement, s5time_bits_or_zero}
 use Rattle.statement_laws.proofs.FlatLemmas.{flat_of}
 
 -- ---- what a view names
@@ -99,7 +99,7 @@ bytes_same : (n : ℕ) (bytes : List ℕ) → number_from n bytes ≡ number_beh
 bytes_same n [] = refl
 bytes_same n (b ∷ bs) = bytes_same (256 * n + b) bs
 
-none_same : (o : Option ℕ) → number_or_0 o ≡ number_or_zero o
+none_same : (o : Option ℕ) → number_or_0 o ≡ s5time_bits_or_zero o
 none_same None = refl
 none_same (Some n) = refl
 

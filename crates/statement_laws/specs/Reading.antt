@@ -44,10 +44,10 @@ abbrev pub number_behind : ℕ → List ℕ → ℕ
 number_behind n [] = n
 number_behind n (b ∷ bs) = number_behind (256 * n + b) bs
 
--- a number where there is one; an S5TIME that is too long stands in no source
-abbrev pub number_or_zero : Option ℕ → ℕ
-number_or_zero None = 0
-number_or_zero (Some n) = n
+-- the bits of an S5TIME, and 0 without any: one that is too long stands in no source
+abbrev pub s5time_bits_or_zero : Option ℕ → ℕ
+s5time_bits_or_zero None = 0
+s5time_bits_or_zero (Some n) = n
 
 -- the bits of a constant
 unfoldable pub bits_of_literal : Literal → ℕ
@@ -60,7 +60,7 @@ bits_of_literal (literal.Dword value) = value
 bits_of_literal (literal.Long value) = twos_complement 32 value
 bits_of_literal (literal.Count value) = bcd_digits 3 value
 bits_of_literal (literal.Time ms) = twos_complement 32 ms
-bits_of_literal (literal.S5time ms) = number_or_zero (s5time_of_ms ms)
+bits_of_literal (literal.S5time ms) = s5time_bits_or_zero (s5time_of_ms ms)
 bits_of_literal (literal.Characters bytes) = number_behind 0 bytes
 bits_of_literal (literal.Bytes bytes) = number_behind 0 bytes
 

@@ -7,7 +7,7 @@ use Rattle.flat_code.specs.Forms.{payload_fits, passed_coding}
 use Rattle.flat_code.specs.Kinds.{jump_number}
 use Rattle.flat_code.specs.OpCodes.{op_code_of}
 use Rattle.flat_code.specs.Ops.{is_instruction, is_op, op_of}
-use Rattle.flat_code.specs.Table.{admits, takes_of}
+use Rattle.flat_code.specs.Table.{admits, forms_of}
 use Rattle.flat_code.specs.declared.kinds.JumpOperation.{JumpOperation}
 use Rattle.flat_code.specs.declared.kinds.JumpOperation.TheVariants as jump
 use Rattle.flat_code.specs.declared.operands.Operand.{Operand}
@@ -53,12 +53,12 @@ alone code last o still h = record {
 }
 
 instruction_fails : (w : Operation) (o : Operand) → is_instruction w o ≡ false → is_op (op_code_of w) o ≡ false
-unfolding is_op is_instruction takes_of
+unfolding is_op is_instruction forms_of
 instruction_fails w o h = rw (operation_again w) (and_front (ltb (op_code_of w) 128) _ _ h)
 
 operand_fails : (code : ℕ) (o : Operand) → payload_fits o ≡ false → is_op code o ≡ false
 unfolding is_op
-operand_fails code o h = ap (λ (t : Bool). ltb code 128 && admits (takes_of code) o && t) h ∙ and_false _
+operand_fails code o h = ap (λ (t : Bool). ltb code 128 && admits (forms_of code) o && t) h ∙ and_false _
 
 -- an operation that doesn't take the operand
 pub not_taken : (w : Operation) (last : Bool) (o : Operand) → IsStill o → None ≡ cond (is_instruction w o) (Some (op_of (op_code_of w) last o)) None

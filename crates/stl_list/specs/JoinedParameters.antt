@@ -47,14 +47,14 @@ first_of (b ∷ bs) id = if is_same_block b.id id then 0 else length b.params + 
 
 -- where a parameter of the block that calls is passed: the index of the one that it is passed for,
 -- and its own
-abbrev pub passed_own : (index : ℕ) → Passed → Option (ℕ × ℕ)
-passed_own index (passed.Parameter own width) = Some (index, own)
-passed_own index _ = None
+abbrev pub own_parameter_passed : (index : ℕ) → Passed → Option (ℕ × ℕ)
+own_parameter_passed index (passed.Parameter own width) = Some (index, own)
+own_parameter_passed index _ = None
 
 -- where an op before a call passes a parameter of the block that calls: the index of the one that
 -- it is passed for, and its own
 abbrev pub passed_parameter : Operand → Option (ℕ × ℕ)
-passed_parameter (flat.Pass index actual) = passed_own index actual
+passed_parameter (flat.Pass index actual) = own_parameter_passed index actual
 passed_parameter _ = None
 
 -- the link of a parameter that is passed to a block; `first` is the number of the first parameter

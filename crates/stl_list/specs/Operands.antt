@@ -70,6 +70,7 @@ block_opened_by_ops (op ∷ ops) = block_of_use_db op.operand
 abbrev pub name_at : List Formal → ℕ → List ℕ
 name_at formals index = name_or index (slice_get formals index)
   where
+    -- the name of a parameter; `p` and the index without one
     name_or : ℕ → Option Formal → List ℕ
     name_or index None = parameter_name index
     name_or index (Some f) = f.name

@@ -70,6 +70,7 @@ even_end p = (8 * p.byte + p.bit + bit_count p.width + 15) / 16 * 2
 abbrev pub static_start : List Param → ℕ
 static_start params = end_or_0 (slice_get params (length params - 1))
   where
+    -- the even end of a parameter; 0 without one
     end_or_0 : Option Param → ℕ
     end_or_0 None = 0
     end_or_0 (Some p) = even_end p

@@ -27,8 +27,8 @@ abbrev pub is_truth : Literal → Bool
 is_truth (literal.Truth value) = true
 is_truth _ = false
 
--- an instruction of a form takes a constant: L each but TRUE and FALSE; NOP, BLD, INC, DEC and the
--- shifts a count; + a decimal number or L#; word logic what fits WORD or DWORD
+-- an instruction of an operand rule takes a constant: L each but TRUE and FALSE; NOP, BLD, INC,
+-- DEC and the shifts a count; + a decimal number or L#; word logic what fits WORD or DWORD
 unfoldable pub takes_constant : OperandRule → Literal → Bool
 takes_constant rules.Loads value = not (is_truth value)
 takes_constant (rules.Counts most) value = is_count most value

@@ -5,7 +5,7 @@ use Rattle.stl_ast.specs.declared.mnemonics.Mnemonic.TheVariants as code
 use Rattle.stl_types.specs.declared.operand_rules.OperandRule.{OperandRule}
 use Rattle.stl_types.specs.declared.operand_rules.OperandRule.TheVariants.{Bare, ReadsBit, ReadsBitOrBare, WritesBit, Sets, Resets, Loads, Transfers, LoadsBcd, LoadsAr1, LoadsAr2, StoresAr1, StoresAr2, AddsToAr, Counts, Shifts, Adds, Combines, Jumps, StartsTimer, Enables, StepsCounter, Calls, Opens}
 
--- the form of an instruction. A shift count is at most 15 for words and 32 for double words
+-- the operand rule of an instruction. A shift count is at most 15 for words and 32 for double words
 unfoldable pub operand_rule_of : Mnemonic → OperandRule
 operand_rule_of code.Nop = Counts 1
 operand_rule_of code.Bld = Counts 255

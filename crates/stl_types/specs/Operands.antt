@@ -24,7 +24,7 @@ use Rattle.stl_types.specs.declared.resolved_operands.Side.TheVariants as side
 use Rattle.stl_types.specs.declared.resolved_operands.ResolvedOperand.{ResolvedOperand}
 use Rattle.stl_types.specs.declared.resolved_operands.ResolvedOperand.TheVariants as resolved
 
--- the operands but constants that a form takes, whatever their width
+-- the operands but constants that an operand rule takes, whatever their width
 unfoldable pub takes_operand : OperandRule → ResolvedOperand → Bool
 takes_operand rules.Bare v = names_nothing v
 takes_operand rules.ReadsBit v = is_in_memory v || is_timer v || is_counter v || is_condition v
@@ -54,7 +54,7 @@ takes_operand rules.StepsCounter v = is_counter v
 takes_operand rules.Calls v = is_operand_of_call v
 takes_operand rules.Opens v = is_opened v
 
--- a form that takes a place in memory, of whatever width
+-- an operand rule that takes a place in memory, of whatever width
 unfoldable pub takes_places : OperandRule → Bool
 takes_places rules.ReadsBit = true
 takes_places rules.ReadsBitOrBare = true
@@ -69,8 +69,8 @@ takes_places rules.StoresAr1 = true
 takes_places rules.StoresAr2 = true
 takes_places _ = false
 
--- a form takes an operand of a width: bit instructions a bit, L and T a byte, a word or a double
--- word, those of address registers a double word
+-- an operand rule takes an operand of a width: bit instructions a bit, L and T a byte, a word or a
+-- double word, those of address registers a double word
 unfoldable pub takes_width : OperandRule → Option Width → Bool
 takes_width rules.ReadsBit w = is_bit w
 takes_width rules.ReadsBitOrBare w = is_bit w
@@ -85,12 +85,12 @@ takes_width rules.StoresAr1 w = is_double_word w
 takes_width rules.StoresAr2 w = is_double_word w
 takes_width _ w = true
 
--- the width of an operand fits a form; only a place in memory has one
+-- the width of an operand fits an operand rule; only a place in memory has one
 abbrev pub has_width : OperandRule → Option Width → Bool
 has_width f None = true
 has_width f (Some w) = takes_width f (Some w)
 
--- a form of instructions that write their operand
+-- an operand rule of instructions that write their operand
 abbrev pub rule_writes_operand : OperandRule → Bool
 rule_writes_operand rules.WritesBit = true
 rule_writes_operand rules.Sets = true
@@ -100,8 +100,8 @@ rule_writes_operand rules.StoresAr1 = true
 rule_writes_operand rules.StoresAr2 = true
 rule_writes_operand _ = false
 
--- an operand lies in the peripheral area where the form can't take it: there are inputs to read and
--- outputs to write, and no pointer leads there by an area of its own
+-- an operand lies in the peripheral area where the operand rule can't take it: there are inputs to
+-- read and outputs to write, and no pointer leads there by an area of its own
 abbrev pub is_on_wrong_side : OperandRule → ResolvedOperand → Bool
 is_on_wrong_side f (resolved.Direct place width side.Inputs declared) = rule_writes_operand f
 is_on_wrong_side f (resolved.Direct place width side.Outputs declared) = not (rule_writes_operand f)
@@ -115,12 +115,12 @@ is_input (resolved.Parameter index part.Input declared) = true
 is_input _ = false
 
 -- the rule that an operand that isn't elementary breaks: a structure or an array has no width that
--- fits, where the form takes places at all; a DATE_AND_TIME never has one
+-- fits, where the operand rule takes places at all; a DATE_AND_TIME never has one
 abbrev pub composite_rule : OperandRule → ResolvedOperand → ℕ
 composite_rule f v = if is_date v || takes_places f then 24 else 25
 
--- the rule that an instruction breaks by its operand: of one that the form takes, the width comes
--- before the side
+-- the rule that an instruction breaks by its operand: of one that the operand rule takes, the width
+-- comes before the side
 unfoldable pub rule_of_resolved_operand : OperandRule → ResolvedOperand → Option ℕ
 rule_of_resolved_operand f v =
     if is_composite v then Some (composite_rule f v)
@@ -130,13 +130,13 @@ rule_of_resolved_operand f v =
     else if rule_writes_operand f && is_input v then Some 39
     else None
 
--- the rule that an instruction of a form breaks by what its operand comes to; none where the
--- operand is unknown or isn't checked
+-- the rule that an instruction of an operand rule breaks by what its operand comes to; none where
+-- the operand is unknown or isn't checked
 abbrev pub rule_of_resolution : OperandRule → Resolution → Option ℕ
 rule_of_resolution f (Resolved v) = rule_of_resolved_operand f v
 rule_of_resolution f _ = None
 
--- the rule that an operand breaks with an instruction of a form
+-- the rule that an operand breaks with an instruction of an operand rule
 abbrev pub rule_of_operand : Context → OperandRule → Operand → Option ℕ
 rule_of_operand c f (operand.Constant value) = if takes_constant f value then None else Some 25
 rule_of_operand c f o = rule_of_resolution f (resolution_of c o)

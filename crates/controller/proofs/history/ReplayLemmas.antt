@@ -11,7 +11,7 @@ use Rattle.var_access.specs.declared.What.{What}
 use Rattle.var_access.specs.Entry.{IsInRange}
 use Rattle.controller.specs.Fitting.{EntriesKeepFit, IsFit, StartIsFit}
 use Rattle.controller.specs.Replay.{ContinuesReplay, ContinuesLastObserved, entry_result, last_observed, replay}
-use Rattle.controller.specs.ShownEntry.{WatchedState, observed_changes, nothing_shown, entry_shown, watched_state, watched_next}
+use Rattle.controller.specs.ShownEntry.{WatchedState, observed_changes, nothing_shown, entry_shown, watched_state, next_watched_state}
 use Rattle.controller.specs.Start.{initial_state}
 use Rattle.controller.specs.State.{State}
 use Rattle.controller.specs.declared.observing.Observed.{Observed}
@@ -60,12 +60,12 @@ unfolding entry_result entry_shown
 seen_is code s what = refl
 
 pub observer_next : (code : Code) (s t : State) (what : What) (mon : Option MonRecord) (w w' : WatchedState)
-    (seen : Observed) → w ≡ watched_state s seen → w' ≡ watched_next w mon t
+    (seen : Observed) → w ≡ watched_state s seen → w' ≡ next_watched_state w mon t
     → mon ≡ (entry_result code s what).seen.mon → t ≡ (entry_result code s what).state
     → w' ≡ watched_state t (entry_result code s what).seen
 observer_next code s t what mon w w' seen before looked recorded after =
     looked
-    ∙ ap (λ (v : WatchedState). watched_next v mon t) before
+    ∙ ap (λ (v : WatchedState). next_watched_state v mon t) before
     ∙ ap (λ (o : Observed). watched_state t o)
     (ap (λ (r : Option MonRecord). observed_changes r s.store.memory.peripheral_outputs s.mode t) recorded
     ∙ ap

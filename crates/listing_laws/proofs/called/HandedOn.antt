@@ -23,7 +23,7 @@ use Rattle.stl_codegen.specs.CompiledBlock.{SourceInstruction, StatedBlock, oper
 use Rattle.stl_codegen.specs.EmittedOps.{use_db_ops, pass_ops}
 use Rattle.stl_list.specs.declared.links.Link.{Link}
 use Rattle.stl_list.specs.declared.links.Link.TheVariants.{Joins, Has}
-use Rattle.stl_list.specs.JoinedParameters.{block_links, call_links, called_id, first_of, joined_link, joined_links, links, links_from, links_of_runs, total_parameter_count, passed_own, run_links, system_link, system_links, system_parameters, typed_link}
+use Rattle.stl_list.specs.JoinedParameters.{block_links, call_links, called_id, first_of, joined_link, joined_links, links, links_from, links_of_runs, total_parameter_count, own_parameter_passed, run_links, system_link, system_links, system_parameters, typed_link}
 use Rattle.stl_list.specs.Runs.{StatementOps}
 use Rattle.listing_laws.specs.Chains.{IsLinkBelow, IsKeptBy}
 use Rattle.listing_laws.specs.HandedTypes.{AreLinksHandedOn, AreTypesListed, BlocksHandTypesOn, HandsTypesOn, IsCallable, IsHandedOn, called_kinds, declared_type_in, kinds_in}
@@ -149,10 +149,10 @@ module _ (types : BlockId → List Simple) where
         → AllByRecursion IsLinkKept (joined_links first (first_of all id) (pass_ops ps))
     joined_fine own first id at any [] h = tt
     joined_fine own first id at any (p ∷ ps) h =
-        all_append IsLinkKept (joined_link first (first_of all id) (passed_own p.index p.actual)) (joined_links first (first_of all id) (pass_ops ps))
+        all_append IsLinkKept (joined_link first (first_of all id) (own_parameter_passed p.index p.actual)) (joined_links first (first_of all id) (pass_ops ps))
         (one p.actual h.0) (joined_fine own first id at any ps h.1)
       where
-        one : (a : Passed) → IsHandedOn own (types id) p.index a → AllByRecursion IsLinkKept (joined_link first (first_of all id) (passed_own p.index a))
+        one : (a : Passed) → IsHandedOn own (types id) p.index a → AllByRecursion IsLinkKept (joined_link first (first_of all id) (own_parameter_passed p.index a))
         one (passed.Parameter number w) k =
             (joins_fine (first + number) (first_of all id + p.index) k.0 (at number k.0 k.1) (type_at all id p.index k.0 long any k.2), tt)
         one (passed.Literal value) k = tt
@@ -164,10 +164,10 @@ module _ (types : BlockId → List Simple) where
         → AllByRecursion IsLinkKept (system_links formals first (pass_ops ps))
     system_fine own first formals at [] h = tt
     system_fine own first formals at (p ∷ ps) h =
-        all_append IsLinkKept (system_link formals first (passed_own p.index p.actual)) (system_links formals first (pass_ops ps))
+        all_append IsLinkKept (system_link formals first (own_parameter_passed p.index p.actual)) (system_links formals first (pass_ops ps))
         (one p.actual h.0) (system_fine own first formals at ps h.1)
       where
-        one : (a : Passed) → IsHandedOn own (map (λ (f : Formal). f.kind) formals) p.index a → AllByRecursion IsLinkKept (system_link formals first (passed_own p.index a))
+        one : (a : Passed) → IsHandedOn own (map (λ (f : Formal). f.kind) formals) p.index a → AllByRecursion IsLinkKept (system_link formals first (own_parameter_passed p.index a))
         one (passed.Parameter number w) k =
             let f = got_mapped formals p.index k.0 k.2 in
             subst (λ (o : Option Formal). AllByRecursion IsLinkKept (typed_link (first + number) o)) (sym f.1)

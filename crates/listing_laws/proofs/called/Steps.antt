@@ -14,7 +14,7 @@ use Rattle.stl_codegen.specs.CompiledBlock.{SourceInstruction, StatedBlock, code
 use Rattle.stl_codegen.specs.EmittedOps.{pass_ops}
 use Rattle.stl_list.specs.declared.links.Link.{Link}
 use Rattle.stl_list.specs.declared.links.Link.TheVariants.{Joins, Has}
-use Rattle.stl_list.specs.JoinedParameters.{block_links, call_links, first_of, joined_link, joined_links, links, links_from, links_of_runs, total_parameter_count, passed_own, run_links, system_link, system_links, system_parameters, typed_link}
+use Rattle.stl_list.specs.JoinedParameters.{block_links, call_links, first_of, joined_link, joined_links, links, links_from, links_of_runs, total_parameter_count, own_parameter_passed, run_links, system_link, system_links, system_parameters, typed_link}
 use Rattle.stl_list.specs.Runs.{StatementOps}
 use Rattle.listing_laws.specs.Chains.{HasStep, LinksHaveType}
 use Rattle.listing_laws.specs.Statements.{statement_offset, run_of}
@@ -56,7 +56,7 @@ module _ (all : List CodeBlock) (index own : ℕ) (w : Width) (higher : List Pas
   joined_in : (first other : ℕ) (lower : List Passing) → IsIn (Joins (first + own) (other + index)) (joined_links first other (pass_ops (lower ++ this ∷ higher)))
   joined_in first other [] = inl refl
   joined_in first other (p ∷ lower) =
-      in_back (Joins (first + own) (other + index)) (joined_link first other (passed_own p.index p.actual)) (joined_links first other (pass_ops (lower ++ this ∷ higher)))
+      in_back (Joins (first + own) (other + index)) (joined_link first other (own_parameter_passed p.index p.actual)) (joined_links first other (pass_ops (lower ++ this ∷ higher)))
       (joined_in first other lower)
 
   system_in : (formals : List Formal) (first : ℕ) (f : Formal) → slice_get formals index ≡ Some f → (lower : List Passing)
@@ -64,7 +64,7 @@ module _ (all : List CodeBlock) (index own : ℕ) (w : Width) (higher : List Pas
   system_in formals first f e [] =
       subst (λ (o : Option Formal). IsIn (Has (first + own) f.kind) (typed_link (first + own) o ++ system_links formals first (pass_ops higher))) (sym e) (inl refl)
   system_in formals first f e (p ∷ lower) =
-      in_back (Has (first + own) f.kind) (system_link formals first (passed_own p.index p.actual)) (system_links formals first (pass_ops (lower ++ this ∷ higher)))
+      in_back (Has (first + own) f.kind) (system_link formals first (own_parameter_passed p.index p.actual)) (system_links formals first (pass_ops (lower ++ this ∷ higher)))
       (system_in formals first f e lower)
 
   call_in : (id : BlockId) (first : ℕ) (lower : List Passing) → is_system_function id.kind ≡ false

@@ -10,6 +10,7 @@ use Rattle.plc_base.specs.declared.blocks.BlockKind.{BlockKind}
 use Rattle.plc_base.specs.declared.blocks.BlockKind.TheVariants as kinds
 use Rattle.flat_code.specs.Checking.{good_counts}
 use Rattle.flat_code.specs.Programs.{CodeBlock, DataBlock, Program}
+use Rattle.image_file.specs.Writing.{BlockFitsFields}
 use Rattle.stl_ast.specs.Literals.{AreBytes}
 use Rattle.stl_ast.specs.declared.blocks.Block.{Block}
 use Rattle.stl_ast.specs.declared.blocks.Tree.{Tree}
@@ -40,7 +41,7 @@ use Rattle.stl_list.specs.Lines.{line_behind_statements, stands_before}
 use Rattle.stl_list.specs.Listing.{listed_tree}
 use Rattle.stl_list.specs.Signatures.{Signature, formals_of_block, signatures}
 use Rattle.sem_kept.specs.AcceptedSource.{IsAccepted, program_in}
-use Rattle.sem_kept.specs.Sizes.{IsSmall, IsSmallBlock}
+use Rattle.sem_kept.specs.Sizes.{IsSmall}
 use Rattle.block_layout.proofs.HeadLemmas.{AllHeads, heads_none}
 use Rattle.sem_kept.proofs.accepted.Accepted.{IsSoundHead, IsSoundTree, all_mapped, right_tree, sound_code_blocks}
 use Rattle.sem_kept.proofs.accepted.Sizes.{accepted_is_small}
@@ -141,7 +142,7 @@ codes_fine y blocks ss few (b ∷ bs) heads short bodies declared = (
   codes_fine y blocks ss few bs heads.1 short.1 bodies.1 declared.1,
 )
 
-bodies_fine : (ss : List Signature) (xs : List StatedBlock) → AllByRecursion IsSmallBlock (map compiled_block xs)
+bodies_fine : (ss : List Signature) (xs : List StatedBlock) → AllByRecursion BlockFitsFields (map compiled_block xs)
     → AllByRecursion (λ b. (line : ℕ) → has_too_many_statements (listed_block ss line b) ≡ false) (map compiled_block xs)
 bodies_fine ss [] h = tt
 bodies_fine ss (x ∷ xs) h = (λ line. few_statements ss line x h.0.lines, bodies_fine ss xs h.1)

@@ -4,7 +4,7 @@ use Rattle.std.proofs.lemmas.Bool.Decides.{nat_tests}
 use Rattle.plc_base.specs.Bcd.{bcd_digits}
 use Rattle.plc_base.specs.S5Time.{s5time_of_ms, s5time_of_units}
 use Rattle.plc_base.specs.declared.s5times.TimeBase.{TimeBase}
-use Rattle.flat_code.specs.Table.{admits, takes_of_operation}
+use Rattle.flat_code.specs.Table.{admits, forms_of_operation}
 use Rattle.flat_code.specs.declared.operands.Operand.TheVariants as flat
 use Rattle.stl_ast.specs.Literals.{AreBytes, IsDecimal, IsLiteral, IsLong}
 use Rattle.stl_ast.specs.declared.declarations.Simple.{Simple}
@@ -69,7 +69,7 @@ value_fits value kind is has e =
 -- an instruction takes the constants that its form does
 pub constant_taken : (m : Mnemonic) (value : Literal) → IsLiteral value → HasBytes value
     → takes_constant (operand_rule_of m) value ≡ true
-    → admits (takes_of_operation (operation_for m (operand.Constant value) resolved.Constant))
+    → admits (forms_of_operation (operation_for m (operand.Constant value) resolved.Constant))
     (flat.Literal (bits_of value)) ≡ true
 unfolding operand_rule_of takes_constant operation_for admits bits_of
 constant_taken code.L value is has h = refl

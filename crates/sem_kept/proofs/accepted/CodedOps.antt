@@ -11,7 +11,7 @@ use Rattle.flat_code.specs.Instr.{Passing, Does, Returns}
 use Rattle.flat_code.specs.Kinds.{jump_number}
 use Rattle.flat_code.specs.OpCodes.{op_code_of}
 use Rattle.flat_code.specs.Ops.{OpData, is_instruction, is_op}
-use Rattle.flat_code.specs.Table.{admits, takes_of_operation}
+use Rattle.flat_code.specs.Table.{admits, forms_of_operation}
 use Rattle.flat_code.specs.declared.kinds.JumpOperation.{JumpOperation}
 use Rattle.flat_code.specs.declared.operands.Operand.{Operand as FlatOperand}
 use Rattle.flat_code.specs.declared.operands.Operand.TheVariants as flat
@@ -116,7 +116,7 @@ by_rule : (m : Mnemonic) (o : Operand) (v : ResolvedOperand) → jump_operation_
 unfolding is_instruction
 by_rule m o v j c e n fits rule =
     let all = taken_by_rule (operand_rule_of m) v rule in
-    and_from (admits (takes_of_operation (operation_for m o v)) (flat_operand_of o v))
+    and_from (admits (forms_of_operation (operation_for m o v)) (flat_operand_of o v))
     (payload_fits (flat_operand_of o v))
     (operation_is_taken m o v j c e n (pointer_fits o v fits) all.taken)
     (payload_right (operand_rule_of m) o v all.side fits)

@@ -6,7 +6,7 @@ use Rattle.plc_base.specs.declared.places.Area.{Area}
 use Rattle.flat_code.proofs.OpLemmas.{instruction_is_op}
 use Rattle.flat_code.specs.OpCodes.{op_code_of}
 use Rattle.flat_code.specs.Ops.{is_op, is_instruction}
-use Rattle.flat_code.specs.Table.{admits, takes_of_operation}
+use Rattle.flat_code.specs.Table.{admits, forms_of_operation}
 use Rattle.flat_code.specs.declared.operands.Operand.{Operand as FlatOperand}
 use Rattle.flat_code.specs.declared.operations.Operation.{Operation}
 use Rattle.stl_ast.specs.Statements.{is_empty_statement}
@@ -42,7 +42,7 @@ PointerFits _ = Unit {0}
 -- an instruction that goes on takes what its form does
 pub operation_is_taken : (m : Mnemonic) (o : Operand) (v : ResolvedOperand) → jump_operation_of m ≡ None → call_operation_of m ≡ None
     → end_operation_of m ≡ None → is_empty_statement m ≡ false → PointerFits v → form_takes (operand_rule_of m) v ≡ true
-    → admits (takes_of_operation (operation_for m o v)) (flat_operand_of o v) ≡ true
+    → admits (forms_of_operation (operation_for m o v)) (flat_operand_of o v) ≡ true
 unfolding operand_rule_of operation_for form_takes admits flat_operand_of
 operation_is_taken code.Empty o v j c e n f h = absurd cc
 operation_is_taken _ o v j c e n f h = grind (arith, pointer_near, nat_tests)

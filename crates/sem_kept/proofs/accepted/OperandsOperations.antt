@@ -8,7 +8,7 @@ use Rattle.plc_base.specs.declared.places.Width.TheVariants as width
 use Rattle.flat_code.specs.Blocks.{Environment, is_bad_place, is_in_parameter as is_input_parameter, lacks_own_parameter, lacks_width, parameter_meant, prepares_statement, writes_operand as writes_code}
 use Rattle.flat_code.specs.OpCodes.{op_code_of}
 use Rattle.flat_code.specs.PlacedOps.{is_opening}
-use Rattle.flat_code.specs.Table.{has_memory_width as has_width_of, takes_of}
+use Rattle.flat_code.specs.Table.{has_memory_width as has_width_of, forms_of}
 use Rattle.flat_code.specs.Operations.{operation_of as operation_of_code}
 use Rattle.flat_code.specs.declared.table.OperandForms.{OperandForms}
 use Rattle.flat_code.specs.declared.operands.Operand.TheVariants as flat
@@ -235,11 +235,11 @@ dword_only t e _ k = absurd cc
 
 -- what the operation of a mnemonic takes
 abbrev operation_takes : Mnemonic → Operand → OperandForms
-operation_takes m o = takes_of (op_code_of (operation_for m o in_memory))
+operation_takes m o = forms_of (op_code_of (operation_for m o in_memory))
 
 widths : (m : Mnemonic) (o : Operand) (w : Width) → takes_operand (operand_rule_of m) in_memory ≡ true
     → takes_width (operand_rule_of m) (Some w) ≡ true → has_width_of (operation_takes m o) w ≡ true
-unfolding takes_operand takes_width operand_rule_of takes_of operation_for operation_of_code
+unfolding takes_operand takes_width operand_rule_of forms_of operation_for operation_of_code
 widths code.A o w h k = bit_only (operation_takes code.A o) refl w k
 widths code.An o w h k = bit_only (operation_takes code.An o) refl w k
 widths code.O o w h k = bit_only (operation_takes code.O o) refl w k
@@ -263,7 +263,7 @@ no_lack : (m : Mnemonic) (o : Operand) (v : ResolvedOperand) (w : Width) → is_
     → width_in v ≡ Some w → IsTakenBy (operand_rule_of m) v
     → lacks_width (op_with_end_mark (operation_for m o v) (flat_operand_of o v)) w ≡ false
 no_lack m o v w mem is h =
-    ap (λ (x : Operation). not (has_width_of (takes_of (op_code_of x)) w)) (memory_word m o v mem)
+    ap (λ (x : Operation). not (has_width_of (forms_of (op_code_of x)) w)) (memory_word m o v mem)
     ∙ ap not (widths m o w (memory_form (operand_rule_of m) v mem h.taken)
     (ap (λ (x : Option Width). has_width (operand_rule_of m) x) (sym is) ∙ h.wide))
 

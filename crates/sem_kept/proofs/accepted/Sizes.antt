@@ -12,6 +12,7 @@ use Rattle.plc_base.specs.declared.blocks.BlockId.{BlockId}
 use Rattle.flat_code.specs.Checking.{records_size, data_size, good_counts}
 use Rattle.flat_code.specs.Programs.{DataBlock}
 use Rattle.flat_code.specs.declared.programs.Param.{Param}
+use Rattle.image_file.specs.Writing.{BlockFitsFields}
 use Rattle.stl_ast.specs.Blocks.{is_parameter}
 use Rattle.stl_ast.specs.Sizes.{body_size}
 use Rattle.stl_ast.specs.Statements.{is_empty_statement}
@@ -49,7 +50,7 @@ use Rattle.stl_codegen.specs.CompiledBlock.{StatedBlock, compiled_block}
 use Rattle.stl_codegen.specs.GeneratedProgram.{code_block, code_block_of, code_blocks_of, generated_data_block, data_block_of, data_blocks_of, each_block, name_entries_of, param_here, param_of, params_of}
 use Rattle.stl_codegen.specs.Instruction.{return_last}
 use Rattle.stl_codegen.specs.Order.{is_code_before, is_data_before}
-use Rattle.sem_kept.specs.Sizes.{AcceptedIsSmall, IsSmallBlock}
+use Rattle.sem_kept.specs.Sizes.{AcceptedIsSmall}
 use Rattle.block_layout.proofs.HeadLemmas.{AllHeads, heads_none}
 use Rattle.sem_kept.specs.SettledStatements.{context_at}
 use Rattle.sem_kept.proofs.accepted.Accepted.{AllLaid, IsSoundBlock, IsSoundStatement, IsSoundTree, right_tree, sound_code_blocks}
@@ -453,7 +454,7 @@ few_statements n h = grind (arith, nat_tests)
 small_block : (symbols : List Symbol) (t : Tree) → IsShortTree symbols t
     → sum_by whole_size t.blocks ≤ 4194304 → (k : ℕ) (b : Block) (l : BlockLayout)
     (id : BlockId) → IsSoundBlock symbols t k b l → l.id ≡ Some id → is_code id.kind ≡ true
-    → IsSmallBlock (compiled_block (code_block (context_at symbols t k) b l id))
+    → BlockFitsFields (compiled_block (code_block (context_at symbols t k) b l id))
 small_block symbols t ready bounded k b l id sound e is =
     let count = count_by (λ (s : Statement). not (is_empty_statement s.code)) b.body in
     record {
@@ -502,8 +503,8 @@ accepted_is_small source file symbols t is =
           (omega (arith, codes_count symbols t sound, codes))
           (omega (arith, datas_count symbols t sound, datas)) (names_count symbols fine);
       short = omega (arith, code_bytes, codes, datas, bytes, code_sum, data_sum, name_sum);
-      blocks = all_mapped_to IsSmallBlock compiled_block
+      blocks = all_mapped_to BlockFitsFields compiled_block
           (code_blocks_of t symbols (layouts_of t symbols))
-          (sound_code_blocks symbols t (λ s. IsSmallBlock (compiled_block s)) sound
+          (sound_code_blocks symbols t (λ s. BlockFitsFields (compiled_block s)) sound
           (small_block symbols t ready code_bytes));
     }

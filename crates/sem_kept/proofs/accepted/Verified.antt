@@ -8,6 +8,7 @@ use Rattle.flat_code.specs.Loading.{AreVerified, environment_of_block, lens_of}
 use Rattle.flat_code.specs.PlacedOps.{code_places, starts_of_statements}
 use Rattle.flat_code.specs.Programs.{CodeBlock}
 use Rattle.flat_code.specs.Records.{BlockRecord}
+use Rattle.image_file.specs.Writing.{BlockFitsFields}
 use Rattle.stl_ast.specs.Literals.{AreBytes}
 use Rattle.stl_codegen.specs.CompiledBlock.{StatedBlock, code_in, compiled_block}
 use Rattle.stl_codegen.specs.GeneratedProgram.{code_blocks_of}
@@ -18,7 +19,6 @@ use Rattle.sem_kept.specs.CodedBlocks.{IsBlockCoded}
 use Rattle.sem_kept.specs.Jumps.{AllLandRight}
 use Rattle.sem_kept.specs.Operands.{HaveNoOperandFaults}
 use Rattle.sem_kept.specs.Records.{HasFaultlessCode}
-use Rattle.sem_kept.specs.Sizes.{IsSmallBlock}
 use Rattle.sem_kept.proofs.accepted.Accepted.{right_tree}
 use Rattle.sem_kept.proofs.accepted.Coded.{are_coded}
 use Rattle.sem_kept.proofs.accepted.JumpsProgram.{fine_is_faultless, jumps_land_right}
@@ -49,7 +49,7 @@ blocks_clean lens all (b ∷ bs) fine lands =
 
 -- ---- the program
 
-has_code : (bs : List CodeBlock) → AllByRecursion IsBlockCoded bs → AllByRecursion IsSmallBlock bs
+has_code : (bs : List CodeBlock) → AllByRecursion IsBlockCoded bs → AllByRecursion BlockFitsFields bs
     → AllByRecursion HasFaultlessCode bs
 has_code [] coded small = tt
 has_code (b ∷ bs) coded small = (
