@@ -121,7 +121,8 @@ returned_cells (Some kind) = record {
   presets = [];
 } ∷ []
 
--- the components of a block: its structure, or its sections but VAR_TEMP in their order
+-- the components of a block: its structure, or its return value, if it has one, and its sections
+-- but VAR_TEMP in their order
 abbrev pub components_of : Types → Block → List Cell
 components_of y b =
     returned_cells b.result ++ section_cells y (of_sections b) (λ k. not (is_temp k)) [] b.parts

@@ -293,7 +293,8 @@ pub record FitsCall (p : Program) (q : PlacedOp) (kind number instance : ℕ) : 
   pub there : callee_among (block_signatures p) kind number ≡ Some called
   -- each parameter is passed, but where a function block is called
   pub all : (called.0 ≡ kind_number kinds.Fb → ⊥) → are_all_passed 0 called.2 q.before ≡ true
-  -- the instance data block is one of the called function block, or none is needed
+  -- a function block is given an instance data block that is there and long enough, or none where
+  -- it has no parameters; no other is given one
   pub instance_fits : is_bad_instance (lens_of p.data_blocks) called instance ≡ false
 
 -- in a program that verifies each CALL, UC and CC has its block, what it passes, and its instance

@@ -65,7 +65,8 @@ parameter_at c component kind =
     (slice_get c.blocks c.block))
     kind (slice_get (cells_at c.layouts c.block false) component.place)
 
--- the first name of a path is that of a temporary variable; the others are those of its components
+-- the name is that of no component of the block outside VAR_TEMP, so it can only be that of a
+-- temporary variable
 abbrev pub is_temporary_variable : Context → List ℕ → Bool
 is_temporary_variable c name =
     not (is_some (component_of_name 0 0 0 name (cells_at c.layouts c.block false)))
