@@ -1,8 +1,8 @@
 use crate::calls::{Step, at, laid_sound, path_of, symbols_of};
 use crate::compare::same;
 use block_layout::{
-    Cell, ComponentAt, Layout, Layouts, Member, Path, PathEnd, bits_of, fits, is_parameter,
-    named_block, placed, plain_bits, width_of,
+    Cell, ComponentAt, Layout, Layouts, Member, Path, PathEnd, bits_of, elementary_place, fits,
+    is_parameter, named_block, plain_bits, width_of,
 };
 use plc_base::{Area, BlockId, BlockKind, Place, Width};
 use std::alloc::{AllocError, Global};
@@ -29,7 +29,7 @@ static TYPES: [(Simple, u64, Width); 9] = [
 #[test]
 fn bits_of_types(rt: HostRuntime) {
     for (kind, bits, width) in &TYPES {
-        let found = (plain_bits(*kind), placed(Area::Db, 7, 80, *kind));
+        let found = (plain_bits(*kind), elementary_place(Area::Db, 7, 80, *kind));
         same(&rt, *kind, found, (*bits, at(Area::Db, 7, 10, 0, *width)));
         same(&rt, *kind, width_of(*kind), *width);
     }
@@ -50,7 +50,7 @@ fn bit_at(place: Option<(u16, u8)>) -> Option<(Place, Width)> {
 #[test]
 fn places_of_bits(rt: HostRuntime) {
     for (bits, place) in &PLACES {
-        let found = placed(Area::L, 0, *bits, Simple::Bool);
+        let found = elementary_place(Area::L, 0, *bits, Simple::Bool);
         same(&rt, bits, found, bit_at(*place));
     }
 }
