@@ -24,7 +24,8 @@ impl Model for NumberedBlocks {
 
     ghost view = { λ n. n.list.items };
 
-    ghost invariant = { λ n. (q : ℕ) → get nat_cmp n.places q ≡ numbered_place q n.list.items };
+    ghost invariant = { λ n. (q : ℕ)
+        → get nat_cmp n.places q ≡ numbered_place q n.list.items };
 }
 
 impl NumberedBlocks {

@@ -17,7 +17,8 @@ pub fn law_of_offsets()
     ensures are { (level : ℕ) (cells : List Cell) → components_end level 0 cells < largest_size
         → AreOffsets 0 (siblings level cells) (sound_offsets level cells) }
     ensures alone { (level : ℕ) (cells : List Cell) (places : List ℕ)
-        → components_end level 0 cells < largest_size → AreOffsets 0 (siblings level cells) places
+        → components_end level 0 cells < largest_size
+        → AreOffsets 0 (siblings level cells) places
         → places ≡ sound_offsets level cells }
     ensures found { FindsSound }
 {}

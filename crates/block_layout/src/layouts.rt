@@ -50,7 +50,8 @@ impl Model for Layout {
 
     ghost view = { λ l. l.cells.items };
 
-    ghost invariant = { λ l. AreCellTables l.cells.items l.elements.items l.outer l.name_lists.items
+    ghost invariant = { λ l.
+        AreCellTables l.cells.items l.elements.items l.outer l.name_lists.items
         l.bits
         l.parameters };
 }

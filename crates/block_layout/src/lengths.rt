@@ -210,7 +210,8 @@ pub(crate) fn all_lengths(
     outlines: &[Outline],
 ) -> Result<Vec<u64>, AllocError>
     requires { outlines.now ≡ map (outline_of types.now) blocks.now }
-    ensures { IfOk result (λ v. v.items ≡ map (length_of_block types.now blocks.now) blocks.now) }
+    ensures { IfOk result
+        (λ v. v.items ≡ map (length_of_block types.now blocks.now) blocks.now) }
 {
     let mut lens = Vec::with_capacity(alloc, blocks.len())?;
     for i in 0..blocks.len() {

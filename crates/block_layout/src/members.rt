@@ -56,7 +56,8 @@ impl NameList {
         ensures names { IfOk result (λ _. self.new.names
             ≡ self.old.names ++ name_here level cell.now) }
         ensures members { IfOk result (λ _. self.new.members.items
-            ≡ self.old.members.items ++ (if nat_eq cell.now.level level then member ∷ [] else [])) }
+            ≡ self.old.members.items
+            ++ (if nat_eq cell.now.level level then member ∷ [] else [])) }
     {
         if cell.level as u64 == level {
             self.names.add(alloc, cell.name.as_bytes())?;

@@ -48,7 +48,8 @@ pub(crate) fn least_refusal(
     requires facts { AreFacts types.now blocks.now facts.now }
     requires twice { twice ≡ least (rule_21 blocks.now) }
     requires deep { deep ≡ least (rule_56 types.now blocks.now) }
-    ensures { IfOk result (λ r. r ≡ least (refusals_of_blocks types.now layouts.now blocks.now)) }
+    ensures { IfOk result
+        (λ r. r ≡ least (refusals_of_blocks types.now layouts.now blocks.now)) }
 {
     let unfit = least_unfit(alloc, types, layouts, blocks)?;
     let outside = least_outside(alloc, types, layouts, blocks)?;

@@ -3,7 +3,7 @@ pub(crate) mod rule_21; // a name declared twice in one list
 pub(crate) mod rule_22; // a block twice
 pub(crate) mod rule_23; // an unknown block or user-defined data type
 pub(crate) mod rule_41; // an initial value that doesn't fit
-pub(crate) mod rule_42; // an array with the upper below the lower bound, or an index outside its array
+pub(crate) mod rule_42; // an array whose upper bound is below the lower, or an index outside it
 pub(crate) mod rule_43; // a user-defined data type that contains itself
 pub(crate) mod rule_44; // a block number beyond the limits
 pub(crate) mod rule_50; // local data above 1,024 bytes

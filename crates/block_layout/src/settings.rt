@@ -74,8 +74,8 @@ fn least_in_settings(
     settings: &[Setting],
 ) -> Result<Option<Refusal>, AllocError>
     ensures { IfOk result (λ r. r
-        ≡ least (in_settings (setting_breaks layouts.now which block) (rule_of_setting_fault which)
-        settings.now)) }
+        ≡ least (in_settings (setting_breaks layouts.now which block)
+        (rule_of_setting_fault which) settings.now)) }
 {
     try_least_of(settings, |setting: &Setting| {
         refusal_of_setting(alloc, layouts, which, block, setting)

@@ -80,7 +80,8 @@ impl Cpu {
         ensures state { cpu_state self.new
             ≡ (entry_result (code_of program.now.program) (cpu_state self.old) what.now).state }
         ensures record { result
-            ≡ (entry_result (code_of program.now.program) (cpu_state self.old) what.now).seen.mon }
+            ≡ (entry_result (code_of program.now.program) (cpu_state self.old)
+            what.now).seen.mon }
         ensures stack { IsActivationStack self.new.mode self.new.activations }
     {
         self.entries += 1;

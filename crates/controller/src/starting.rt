@@ -62,7 +62,8 @@ fn numbers_in(alloc: Global, ids: &[BlockId]) -> Result<Vec<u16>, NoMemory>
 /// The numbers of a program's data blocks, which rise.
 #[tactic(auto, using(crate::proofs::StartLemmas::numbers_among))]
 pub fn data_numbers(alloc: Global, program: &Loaded) -> Result<Vec<u16>, NoMemory>
-    ensures { IfOk result (λ v. v.items ≡ data_block_numbers (code_of program.now.program).blocks) }
+    ensures { IfOk result
+        (λ v. v.items ≡ data_block_numbers (code_of program.now.program).blocks) }
 {
     program.law_of_verifying();
     let numbers = numbers_in(alloc, program.blocks())?;
@@ -100,7 +101,8 @@ fn read_blocks(
 // Memory with copies of the program's data blocks, in which all else is 0.
 #[tactic(auto, using(crate::proofs::StartLemmas::blocks_read, crate::proofs::StartLemmas::blocks_differ))]
 fn memory_of(alloc: Global, program: &Loaded, profile: Profile) -> Result<Memory, NoMemory>
-    ensures { IfOk result (λ m. m ≡ initial_memory profile (code_of program.now.program).blocks) }
+    ensures { IfOk result
+        (λ m. m ≡ initial_memory profile (code_of program.now.program).blocks) }
 {
     program.law_of_verifying();
     let numbers = data_numbers(alloc, program)?;

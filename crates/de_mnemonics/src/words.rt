@@ -247,7 +247,8 @@ fn written_operand<'a>(language: Language, word: &'a [u8]) -> Option<WrittenWord
 /// How a word that begins a path is written in the translation.
 #[tactic(auto, unfolding(crate::specs::Words::translated_word))]
 fn written_path<'a>(language: Language, word: &'a [u8]) -> WrittenWord<'a>
-    ensures { Some (result.front.now ++ result.rest.now) ≡ translated_word language Path word.now }
+    ensures { Some (result.front.now ++ result.rest.now)
+        ≡ translated_word language Path word.now }
 {
     if has_operand(opposite(language), word) {
         return WrittenWord {
@@ -285,7 +286,8 @@ pub(crate) fn written_word<'a>(
 
 /// Whether a word is in a list.
 fn is_word_in_table(table: &'static [&'static [u8]], word: &[u8]) -> bool
-    ensures { result ≡ list_any (λ entry. str_eq_ignore_ascii_case word.now entry.now) table.now }
+    ensures { result
+        ≡ list_any (λ entry. str_eq_ignore_ascii_case word.now entry.now) table.now }
 {
     table.iter().any(|entry| word.eq_ignore_ascii_case(entry))
 }

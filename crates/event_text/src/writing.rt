@@ -99,7 +99,8 @@ fn append_vars(vars: &[Var], out: &mut Vec<u8>) -> Result<(), NoMemory>
 /// Appends a block's kind and number.
 fn append_block(block: &BlockId, out: &mut Vec<u8>) -> Result<(), NoMemory>
     ensures { OnOk result (out.new.items
-        ≡ out.old.items ++ (kind_text block.now.kind ++ (codes " " ++ decimal block.now.number))) }
+        ≡ out.old.items
+        ++ (kind_text block.now.kind ++ (codes " " ++ decimal block.now.number))) }
 {
     out.extend_from_slice(kind_text(block.kind))?;
     out.extend_from_slice(b" ")?;

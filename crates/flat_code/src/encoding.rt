@@ -127,7 +127,8 @@ fn put(out: &mut Vec<u8>, first: u8, operand: &Operand) -> Result<(), NoMemory>
 
 #[tactic(auto, unfolding(crate::specs::Forms::direct_coding, crate::specs::Forms::passed_coding))]
 fn put_pass(out: &mut Vec<u8>, first: u8, index: u8, actual: Passed) -> Result<(), NoMemory>
-    ensures ok { OnOk result (out.new.items ≡ out.old.items ++ first ∷ pass_bytes index actual) }
+    ensures ok { OnOk result
+        (out.new.items ≡ out.old.items ++ first ∷ pass_bytes index actual) }
     ensures err { OnErr result (out.new.items ≡ out.old.items) }
 {
     match actual {

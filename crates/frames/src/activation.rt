@@ -221,7 +221,8 @@ impl Activation {
         requires depth { length self.old.running.locals.starts ≡ length (frames_of self.old) }
         requires few { length (frames_of self.old) < 24 }
         requires room { entry_fault local_len self.old ≡ None }
-        ensures { self.new ≡ block_entered (record self.old.running.frame { local_len = local_len })
+        ensures { self.new
+            ≡ block_entered (record self.old.running.frame { local_len = local_len })
             self.old }
     {
         self.running.locals.open(local_len);

@@ -28,8 +28,10 @@ pub fn law_of_local_bytes()
 pub fn law_of_local_operands()
     ensures number { (l : LocalData) (frame at bit : ℕ) (width : Width)
         → local_number l frame at bit width
-        ≡ option_and_then (λ own. number_over (slice_get own) at bit width) (frame_bytes l frame) }
-    ensures written { (l : LocalData) (frame at bit : ℕ) (width : Width) (value : ℕ) → IsLaidOut l
+        ≡ option_and_then (λ own. number_over (slice_get own) at bit width)
+        (frame_bytes l frame) }
+    ensures written { (l : LocalData) (frame at bit : ℕ) (width : Width) (value : ℕ)
+        → IsLaidOut l
         → MatchOption (local_written l frame at bit width value)
         (option_and_then (λ own. put_number own at bit width value) (frame_bytes l frame) ≡ None)
         (λ new. IsOwnWritten l new frame at bit width value) }

@@ -93,7 +93,8 @@ pub(crate) fn misfits_call(
     index: u8,
     actual: Passed,
 ) -> bool
-    ensures { result ≡ misfits_call (environment_of environment.now) last.now.operand index actual }
+    ensures { result
+        ≡ misfits_call (environment_of environment.now) last.now.operand index actual }
 {
     match last.operand {
         Operand::Called { kind, number, .. } => match callee(environment.blocks, kind, number) {

@@ -111,7 +111,8 @@ impl<'a> Reader<'a> {
     fn name_text(&mut self, before: &[u8], count: u8) -> Result<&'a [u8], ReadingEnd>
         requires { self.old.at + length self.old.rest.now < 2 ^ 32 }
         ensures read { reader_run (λ s. s.now) result self.new
-            ≡ run_layout (name_bytes before.now count) (reader_cursor self.old) (log_of self.old) }
+            ≡ run_layout (name_bytes before.now count) (reader_cursor self.old)
+            (log_of self.old) }
         ensures all { self.new.at + length self.new.rest.now
             ≡ self.old.at + length self.old.rest.now }
     {

@@ -168,7 +168,8 @@ impl Reader<'_> {
     pub(crate) fn parameter_count(&mut self, kind: u8) -> Result<u8, ReadingEnd>
         requires { self.old.at + length self.old.rest.now < 2 ^ 32 }
         ensures read { reader_run (λ n. n) result self.new
-            ≡ run_layout (parameter_count_layout kind) (reader_cursor self.old) (log_of self.old) }
+            ≡ run_layout (parameter_count_layout kind) (reader_cursor self.old)
+            (log_of self.old) }
         ensures all { self.new.at + length self.new.rest.now
             ≡ self.old.at + length self.old.rest.now }
         ensures step { OnOk result (self.new.at ≡ self.old.at + 1) }

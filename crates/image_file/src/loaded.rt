@@ -196,7 +196,8 @@ impl Loaded {
     /// code block.
     pub fn code(&self, block: BlockId) -> Option<&[u8]>
         ensures { option_map (λ s. s.now) result
-            ≡ option_map (λ b. code_bytes b.code) (block_by_id block self.now.program.code_blocks) }
+            ≡ option_map (λ b. code_bytes b.code)
+            (block_by_id block self.now.program.code_blocks) }
     {
         let block = block_of(self.blocks.as_slice(), self.table.as_slice(), block)?;
         Some(block.code())

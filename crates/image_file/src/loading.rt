@@ -41,7 +41,8 @@ fn signature(alloc: Global, block: &BlockRead) -> Result<SignatureRead, NoMemory
 }
 
 fn signatures(alloc: Global, blocks: &[LocatedBlock]) -> Result<Signatures, NoMemory>
-    ensures { IfOk result (λ s. s ≡ map signature_of (blocks_of (map located_block blocks.now))) }
+    ensures { IfOk result
+        (λ s. s ≡ map signature_of (blocks_of (map located_block blocks.now))) }
 {
     let mut signatures = Vec::new(alloc);
     for started in blocks {

@@ -68,7 +68,8 @@ impl<'a> Reader<'a> {
     pub(crate) fn u8(&mut self) -> Result<u8, ReadingEnd>
         requires { self.old.at + length self.old.rest.now < 2 ^ 32 }
         ensures read { reader_run (λ n. n) result self.new
-            ≡ run_layout (field_layout a_byte no_fault) (reader_cursor self.old) (log_of self.old) }
+            ≡ run_layout (field_layout a_byte no_fault) (reader_cursor self.old)
+            (log_of self.old) }
         ensures all { self.new.at + length self.new.rest.now
             ≡ self.old.at + length self.old.rest.now }
         ensures step { OnOk result (self.new.at ≡ self.old.at + 1) }
@@ -90,7 +91,8 @@ impl<'a> Reader<'a> {
     pub(crate) fn u16(&mut self) -> Result<u16, ReadingEnd>
         requires { self.old.at + min 4 (length self.old.rest.now) < 2 ^ 32 }
         ensures read { reader_run (λ n. n) result self.new
-            ≡ run_layout (field_layout a_word no_fault) (reader_cursor self.old) (log_of self.old) }
+            ≡ run_layout (field_layout a_word no_fault) (reader_cursor self.old)
+            (log_of self.old) }
         ensures all { self.new.at + length self.new.rest.now
             ≡ self.old.at + length self.old.rest.now }
         ensures step { OnOk result (self.new.at ≡ self.old.at + 2) }

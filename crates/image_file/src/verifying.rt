@@ -202,7 +202,8 @@ fn check_op(
     requires room { place.now.at + size_of_op op.now + length (code_bytes place.now.rest.now)
         < 2 ^ 32 }
     requires start { start + place.now.at < 2 ^ 32 }
-    ensures { result ≡ with_faults least (op_faults (environment_of environment.now) statements.now
+    ensures { result
+        ≡ with_faults least (op_faults (environment_of environment.now) statements.now
         start (placed_op_of op.now place.now)) }
 {
     let at = start + place.at;

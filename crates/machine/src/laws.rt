@@ -105,13 +105,15 @@ pub fn what_fits_may_change()
     ensures delay { (p : Program) (m : Areas) (a : Activation) (n : ℕ)
         → FitsProgram p m a → FitsProgram p m (record a { delay = n }) }
     ensures local_byte { (p : Program) (m : Areas) (a b : Activation) (frame byte value : ℕ)
-        → with_local_byte frame byte value a ≡ Some b → FitsProgram p m a → FitsProgram p m b }
+        → with_local_byte frame byte value a ≡ Some b → FitsProgram p m a
+        → FitsProgram p m b }
 {}
 
 /// After RET_VAL was given an activation fits as before.
 pub fn results_fit()
     ensures { (p : Program) (m n : Areas) (a b : Activation) (to : Binding) (value : ℕ)
-        → Verifies p → FitsProgram p m a → GivesResult to value a b m n → GoesOnFitting p m n b }
+        → Verifies p → FitsProgram p m a → GivesResult to value a b m n
+        → GoesOnFitting p m n b }
 {
     what_verifying_gives();
 }

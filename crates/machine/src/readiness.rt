@@ -64,7 +64,8 @@ fn has_line(code: &LoadedCode<'_>, at: u32) -> bool
 // Whether a statement begins at an offset of a block, with what it needs.
 fn is_complete_at(c: &Loaded, code: &LoadedCode<'_>, own: BlockId, at: u32) -> bool
     requires { (code_of c.now.program).head own ≡ Some (block_head_of code.now) }
-    ensures { result ≡ is_statement_complete (code_of c.now.program) (statement_fetched code.now at)
+    ensures { result
+        ≡ is_statement_complete (code_of c.now.program) (statement_fetched code.now at)
         own }
 {
     if !has_line(code, at) {

@@ -166,7 +166,8 @@ fn bind(
     ensures { MatchResult result
         (λ _. binding_by operand.now params.now bindings.old (local_of s.now) m.now
         ≡ Ok bindings.new)
-        (λ code. binding_by operand.now params.now bindings.old (local_of s.now) m.now ≡ Err code) }
+        (λ code. binding_by operand.now params.now bindings.old (local_of s.now) m.now
+        ≡ Err code) }
 {
     match *operand {
         Operand::Pass { index, actual } => {

@@ -16,5 +16,6 @@ pub struct Bins {
     ghost count: { length bins.items ≡ 32 },
     ghost bitmap: { map ≡ bitmap_of bins.items },
     ghost placed: { IsTrue (are_placed_from 0 bins.items) },
-    ghost within: { (ob : ℕ) → waiting_count ob (requests_by_rank bins.items) ≤ queue_length ob },
+    ghost within: { (ob : ℕ)
+        → waiting_count ob (requests_by_rank bins.items) ≤ queue_length ob },
 }

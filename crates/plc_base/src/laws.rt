@@ -43,5 +43,6 @@ pub fn ms_and_back(ms: u32, base: TimeBase)
 /// empty list has none.
 pub fn law_of_least()
     ensures none { (rs : List Refusal) → least rs ≡ None → rs ≡ [] }
-    ensures some { (rs : List Refusal) (r : Refusal) → least rs ≡ Some r → IsLeastRefusal rs r }
+    ensures some { (rs : List Refusal) (r : Refusal) → least rs ≡ Some r
+        → IsLeastRefusal rs r }
 {}

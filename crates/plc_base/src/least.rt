@@ -63,7 +63,8 @@ pub fn try_least_of<T, F: Fn(&T) -> Result<Option<Refusal>, AllocError>>(
 ) -> Result<Option<Refusal>, AllocError>
     requires { F.IsAlwaysCallable rules }
     ensures { IfOk result (λ found. (broken : T → List Refusal)
-        → ((x : T) (r : Option Refusal) → FnReturnsAt F.Fn rules x (Ok r) → r ≡ least (broken x))
+        → ((x : T) (r : Option Refusal) → FnReturnsAt F.Fn rules x (Ok r)
+        → r ≡ least (broken x))
         → found ≡ least (flat_map broken items.now)) }
 {
     let mut found = None;

@@ -74,7 +74,8 @@ fn bound_image<F: Files, K: Sink>(
 ) -> Result<(), Failure>
     ensures { let went = disk_moments (F.shown files.old) (F.shown files.new) in
         let took = sink_moments (K.shown out.old) (K.shown out.new) in
-        (img : List ℕ) → CommandComesTo (Bound img cert.now) (image.now ∷ []) went took result }
+        (img : List ℕ)
+        → CommandComesTo (Bound img cert.now) (image.now ∷ []) went took result }
 {
     match check_bound(alloc, image) {
         Ok(BoundText::Fits { certificate }) => write_output(files, out, cert, &certificate),

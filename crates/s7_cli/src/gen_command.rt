@@ -76,7 +76,8 @@ fn generate<K: Sink>(alloc: Global, number: u32, out: &mut K) -> Result<(), Fail
 /// summary: how many entries the history has, the mode behind them, and the sum of the bytes MB 0
 /// to MB 255; or the line of a refusal. No file is read.
 pub fn cmd_gen<K: Sink>(alloc: Global, number: u32, out: &mut K) -> ExitStatus
-    ensures ends { (files : FilesAt) → EndsWithStatus (Some (Gen number)) (disk_moments files files)
+    ensures ends { (files : FilesAt)
+        → EndsWithStatus (Some (Gen number)) (disk_moments files files)
         (sink_moments (K.shown out.old) (K.shown out.new)) result.code }
     ensures table { (files : FilesAt) → StatusTable (Some (Gen number)) (disk_moments files files)
         (sink_moments (K.shown out.old) (K.shown out.new)) result.code }

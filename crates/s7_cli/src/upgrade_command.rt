@@ -22,7 +22,8 @@ fn upgrade_image<F: Files, K: Sink>(
 ) -> Result<(), Failure>
     ensures { let went = disk_moments (F.shown files.old) (F.shown files.new) in
         let took = sink_moments (K.shown out.old) (K.shown out.new) in
-        (img : List ℕ) → CommandComesTo (Upgrade img img2.now) (image.now ∷ []) went took result }
+        (img : List ℕ)
+        → CommandComesTo (Upgrade img img2.now) (image.now ∷ []) went took result }
 {
     let upgraded = check_upgrade(alloc, image)?;
     write_output(files, out, img2, &upgraded)

@@ -24,7 +24,8 @@ ghost use Rattle.sem_kept.specs.SettledStatements.{StatementsSettle};
 /// as its targets, and behind the last one none begins.
 pub fn compiled_is_read_back()
     ensures { (b : CodeBlock) (statements : List SourceInstruction) → AreCompiled 0 statements
-        → b.code ≡ code_in statements → b.lines ≡ lines_in statements → IsReadBack b statements }
+        → b.code ≡ code_in statements → b.lines ≡ lines_in statements
+        → IsReadBack b statements }
 {
     flat_code::laws::one_number_each();
 }

@@ -11,7 +11,8 @@ ghost use Rattle.stack_bound.specs.declared.certificates.Bound.{Bound};
 /// Where a certificate holds no chain of calls is too deep.
 pub fn no_chain_is_too_deep()
     ensures { (profile : Profile) (p : Program) (c : List Bound) (chain : List BlockId)
-        → IsCertificateOf profile p c → IsCallChain p chain → IsTooDeep profile p chain → ⊥ }
+        → IsCertificateOf profile p c → IsCallChain p chain → IsTooDeep profile p chain
+        → ⊥ }
 {}
 
 /// Where a certificate holds of a program that verifies, no valid history of it leads to a STOP by block

@@ -133,7 +133,8 @@ fn actuals_before(
     called: &[Formal],
     before: &[Op],
 ) -> Result<Vec<Actual>, NoMemory>
-    ensures { IfOk result (λ v. v.items ≡ actuals_before line formals.now called.now before.now) }
+    ensures { IfOk result
+        (λ v. v.items ≡ actuals_before line formals.now called.now before.now) }
 {
     let mut actuals = Vec::new(alloc);
     for op in before {

@@ -53,7 +53,8 @@ fn plain_declaration(alloc: Global, line: u32, formal: &Formal) -> Result<Declar
 
 /// Bounds of so many elements.
 fn bounds(alloc: Global, count: u16) -> Result<Vec<Bounds>, NoMemory>
-    ensures { IfOk result (λ v. v.items ≡ record { low = pos 0; high = pos (count - 1) } ∷ []) }
+    ensures { IfOk result
+        (λ v. v.items ≡ record { low = pos 0; high = pos (count - 1) } ∷ []) }
 {
     Vec::from_slice(
         alloc,
@@ -159,7 +160,8 @@ fn add_section(
     kind: PartKind,
     items: Declarations,
 ) -> Result<(), NoMemory>
-    ensures { IfOk result (λ _. parts.new.items ≡ parts.old.items ++ section_part line kind items) }
+    ensures { IfOk result
+        (λ _. parts.new.items ≡ parts.old.items ++ section_part line kind items) }
 {
     if !items.as_slice().is_empty() {
         parts.push(Part { line, kind, items })?;

@@ -45,7 +45,8 @@ fn formal_of_param(
     parameter: usize,
     param: &Param,
 ) -> Result<Formal, NoMemory>
-    ensures { IfOk result (λ f. f ≡ formal_of_param chains.now behind index parameter param.now) }
+    ensures { IfOk result
+        (λ f. f ≡ formal_of_param chains.now behind index parameter param.now) }
 {
     let returns = behind && param.section == SECTION_OUT;
     Ok(Formal {

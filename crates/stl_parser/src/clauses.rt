@@ -118,7 +118,8 @@ fn semicolon_place(source: &[u8], tokens: &[Token]) -> Option<usize>
 /// The tokens before the first `;`, and those behind it.
 #[tactic(auto, unfolding(crate::specs::Clauses::until_semicolon))]
 fn until_semicolon<'a>(source: &[u8], tokens: &'a [Token]) -> Option<(&'a [Token], &'a [Token])>
-    ensures { option_map (λ r. (r.0.now, r.1.now)) result ≡ until_semicolon source.now tokens.now }
+    ensures { option_map (λ r. (r.0.now, r.1.now)) result
+        ≡ until_semicolon source.now tokens.now }
 {
     let count = semicolon_place(source, tokens)?;
     Some((&tokens[..count], &tokens[count + 1..]))

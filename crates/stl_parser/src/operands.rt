@@ -353,7 +353,8 @@ fn word_operand(
     rest: &[Token],
     tokens: &[Token],
 ) -> Result<Option<Operand>, AllocError>
-    ensures { IfOk result (λ found. found ≡ word_operand source.now token.now rest.now tokens.now) }
+    ensures { IfOk result
+        (λ found. found ≡ word_operand source.now token.now rest.now tokens.now) }
 {
     if let Some(operand) = alone(alloc, source, token, rest)? {
         return Ok(Some(operand));

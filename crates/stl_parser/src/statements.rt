@@ -326,7 +326,8 @@ fn one_token_instruction(
     token: &Token,
     rest: &[Token],
 ) -> Result<Option<BareStatement>, AllocError>
-    ensures { IfOk result (λ found. found ≡ one_token_instruction source.now token.now rest.now) }
+    ensures { IfOk result
+        (λ found. found ≡ one_token_instruction source.now token.now rest.now) }
 {
     let Some((code, form)) = mnemonic_of(token.text(source)) else {
         return Ok(None);

@@ -60,7 +60,8 @@ pub(crate) fn next_clause<'a>(
 ) -> Result<(Clause, &'a [Token], ClausePlace), SourceFault>
     requires level { level_at at < 4294967295 }
     requires inside { tokens.now ≡ [] → is_outside at ≡ false }
-    ensures right { IfOk result (λ r. step_of source.now at tokens.now ≡ Ok (r.0, r.1.now, r.2)) }
+    ensures right { IfOk result
+        (λ r. step_of source.now at tokens.now ≡ Ok (r.0, r.1.now, r.2)) }
     ensures broken { IfErr result (IsBrokenAt source.now at tokens.now last) }
 {
     let [first, ..] = tokens else {

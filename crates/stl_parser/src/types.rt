@@ -362,7 +362,8 @@ pub(crate) fn inits(
     element: &ElementType,
     tokens: &[Token],
 ) -> Result<Option<Sequence<Init>>, AllocError>
-    ensures { IfOk result (λ found. found ≡ init_of source.now arrays.now element.now tokens.now) }
+    ensures { IfOk result
+        (λ found. found ≡ init_of source.now arrays.now element.now tokens.now) }
 {
     match arrays {
         [_] => match element {

@@ -48,7 +48,8 @@ fn append_arrays(arrays: &[Bounds], out: &mut Vec<u8>) -> Result<(), NoMemory>
 
 #[tactic(auto, unfolding(crate::specs::Declarations::element_pieces))]
 fn append_element_type(gap: Gap, of: &ElementType, out: &mut Vec<u8>) -> Result<(), NoMemory>
-    ensures { OnOk result (out.new.items ≡ with_pieces out.old.items (element_pieces gap of.now)) }
+    ensures { OnOk result
+        (out.new.items ≡ with_pieces out.old.items (element_pieces gap of.now)) }
 {
     match of {
         ElementType::Plain { kind } => append_token(gap, type_word(*kind), out),

@@ -75,7 +75,8 @@ fn append_s5time(gap: Gap, ms: u32, out: &mut Vec<u8>) -> Result<(), NoMemory>
 
 fn append_characters(gap: Gap, bytes: &[u8], out: &mut Vec<u8>) -> Result<(), NoMemory>
     ensures { OnOk result (out.new.items
-        ≡ (out.old.items ++ gap_text gap) ++ (single_quote ∷ (bytes.now ++ single_quote ∷ []))) }
+        ≡ (out.old.items ++ gap_text gap)
+        ++ (single_quote ∷ (bytes.now ++ single_quote ∷ []))) }
 {
     append_enclosed(gap, b"'", bytes, b"'", out)
 }

@@ -76,7 +76,8 @@ fn append_first_step(gap: Gap, step: &PathStep, out: &mut Vec<u8>) -> Result<(),
 
 /// Appends a path that begins with its first step.
 pub(crate) fn append_path(gap: Gap, steps: &[PathStep], out: &mut Vec<u8>) -> Result<(), NoMemory>
-    ensures { OnOk result (out.new.items ≡ with_pieces out.old.items (path_pieces gap steps.now)) }
+    ensures { OnOk result
+        (out.new.items ≡ with_pieces out.old.items (path_pieces gap steps.now)) }
 {
     match steps {
         [] => Ok(()),

@@ -43,7 +43,8 @@ fn append_further_actuals(actuals: &[Actual], out: &mut Vec<u8>) -> Result<(), N
 }
 
 fn append_actuals(actuals: &[Actual], out: &mut Vec<u8>) -> Result<(), NoMemory>
-    ensures { OnOk result (out.new.items ≡ with_pieces out.old.items (actuals_pieces actuals.now)) }
+    ensures { OnOk result
+        (out.new.items ≡ with_pieces out.old.items (actuals_pieces actuals.now)) }
 {
     match actuals {
         [] => Ok(()),

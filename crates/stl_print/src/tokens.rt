@@ -19,7 +19,8 @@ pub(crate) fn append_token(gap: Gap, text: &[u8], out: &mut Vec<u8>) -> Result<(
 
 /// Appends a mark.
 pub(crate) fn append_mark(gap: Gap, mark: Mark, out: &mut Vec<u8>) -> Result<(), NoMemory>
-    ensures { OnOk result (out.new.items ≡ (out.old.items ++ gap_text gap) ++ (text_of_mark mark)) }
+    ensures { OnOk result
+        (out.new.items ≡ (out.old.items ++ gap_text gap) ++ (text_of_mark mark)) }
 {
     append_token(gap, mark_text(mark), out)
 }
@@ -75,7 +76,8 @@ pub(crate) fn append_signed_number(gap: Gap, number: i32, out: &mut Vec<u8>) -> 
 /// Appends a name in double quotes.
 pub(crate) fn append_quoted(gap: Gap, name: &[u8], out: &mut Vec<u8>) -> Result<(), NoMemory>
     ensures { OnOk result (out.new.items
-        ≡ (out.old.items ++ gap_text gap) ++ (double_quote ∷ (name.now ++ double_quote ∷ []))) }
+        ≡ (out.old.items ++ gap_text gap)
+        ++ (double_quote ∷ (name.now ++ double_quote ∷ []))) }
 {
     append_enclosed(gap, b"\"", name, b"\"", out)
 }

@@ -118,7 +118,8 @@ impl FieldReader {
     #[tactic(auto, unfolding(csv::specs::Machine::next_record))]
     fn take(&mut self, byte: u8) -> Result<Option<Ending>, AllocError>
         ensures { IfOk result (λ ending. (fields : List (List ℕ)) (rest : List ℕ)
-            → record_from (state_of self.old.field_state) fields self.old.bytes.items (byte ∷ rest)
+            → record_from (state_of self.old.field_state) fields self.old.bytes.items
+            (byte ∷ rest)
             ≡ record_at ending (state_of self.new.field_state) fields self.new.bytes.items rest) }
     {
         match step_at(self.field_state, byte) {

@@ -73,7 +73,8 @@ impl Model for Symbols {
 
     ghost view = { λ s. s.list.items };
 
-    ghost invariant = { λ s. (s.names ≡ map (λ symbol. upper_case_name symbol.name) s.list.items)
+    ghost invariant = { λ s.
+        (s.names ≡ map (λ symbol. upper_case_name symbol.name) s.list.items)
         × All (λ symbol. length symbol.name ≤ 24) s.list.items };
 }
 

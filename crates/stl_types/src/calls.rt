@@ -67,7 +67,8 @@ pub(crate) fn least_unnamed(
 
 /// Adds the name of an actual behind those before it.
 fn add_name(names: &mut NameIndex, alloc: Global, actual: &Actual) -> Result<(), AllocError>
-    ensures { IfOk result (λ _. names.new ≡ names.old ++ upper_case_name actual.now.name ∷ []) }
+    ensures { IfOk result
+        (λ _. names.new ≡ names.old ++ upper_case_name actual.now.name ∷ []) }
 {
     let upper = actual.name.as_bytes().to_ascii_uppercase(alloc)?;
     names.add(alloc, upper.as_slice())

@@ -58,7 +58,8 @@ fn returns(alloc: Global, kind: Simple) -> Result<Formal, AllocError>
 /// The parameters of the start of a delay.
 fn of_start(alloc: Global) -> Result<Vec<Formal>, AllocError>
     ensures { IfOk result (λ v. v.items
-        ≡ ob_nr_formal ∷ dtime_formal ∷ sign_formal ∷ return_value_formal Simple.Int ∷ []) }
+        ≡ ob_nr_formal ∷ dtime_formal ∷ sign_formal ∷ return_value_formal Simple.Int
+        ∷ []) }
 {
     let mut formals = Vec::with_capacity(alloc, 4)?;
     formals.push(ob_nr(alloc)?)?;
@@ -70,7 +71,8 @@ fn of_start(alloc: Global) -> Result<Vec<Formal>, AllocError>
 
 /// The parameters of the cancelling of a delay.
 fn of_cancel(alloc: Global) -> Result<Vec<Formal>, AllocError>
-    ensures { IfOk result (λ v. v.items ≡ ob_nr_formal ∷ return_value_formal Simple.Int ∷ []) }
+    ensures { IfOk result
+        (λ v. v.items ≡ ob_nr_formal ∷ return_value_formal Simple.Int ∷ []) }
 {
     let mut formals = Vec::with_capacity(alloc, 2)?;
     formals.push(ob_nr(alloc)?)?;

@@ -26,7 +26,8 @@ pub(crate) fn publish_and_tell<R: Wait>(
     viewer: &mut Viewer,
     shown: Shown,
 ) -> Result<(), NoMemory>
-    requires rises { IfSome (last_item_of publisher.old.list) (λ last. last.length < shown.length) }
+    requires rises { IfSome (last_item_of publisher.old.list)
+        (λ last. last.length < shown.length) }
     requires board { viewer.old.board ≡ publisher.old.board }
     ensures publisher { publisher.new.board ≡ publisher.old.board }
     ensures viewer { viewer.new.board ≡ viewer.old.board }

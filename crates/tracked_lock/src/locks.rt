@@ -78,7 +78,8 @@ fn pass_at_start<V: Storied>(key: &Key<V>, seat: PassSeat<V>, number: u8) -> Pas
     requires seat { IsFreshSeat (V.origin key.now.first.value) key.now.passes number seat.me }
     requires number { (1 ≤ number) × (number ≤ key.now.passes) }
     ensures { result
-        ≡ fresh_pass (lock_of seat.table_id (V.origin key.now.first.value) key.now.passes) number }
+        ≡ fresh_pass (lock_of seat.table_id (V.origin key.now.first.value) key.now.passes)
+        number }
 {
     let _ = key;
     Pass {

@@ -163,7 +163,8 @@ pub fn give_back<V: Storied + Drop>(
         seat.old.me.0.seen (V.story value) }
     requires len { len ≡ length (V.story value) }
     ensures seat { (seat.new.table_id ≡ seat.old.table_id) × (seat.new.id ≡ seat.old.id) }
-    ensures back { seat.new.me ≡ (without_turn (view_with_list seat.old.me.0 (V.story value)), []) }
+    ensures back { seat.new.me
+        ≡ (without_turn (view_with_list seat.old.me.0 (V.story value)), []) }
 {
     drop(steps.exchange(seat, 0, Some(value)));
     store_count(steps, seat, len);

@@ -189,7 +189,8 @@ fn point_len(text: &[u8]) -> usize
 #[tactic(auto, using(crate::proofs::PartLemmas::split_last))]
 fn at_point(text: &[u8]) -> (&[u8], Option<&[u8]>)
     ensures { MatchOption result.1 (slice_split is_point text.now ≡ result.0.now ∷ [])
-        (λ rest. slice_split is_point text.now ≡ result.0.now ∷ slice_split is_point rest.now) }
+        (λ rest. slice_split is_point text.now
+        ≡ result.0.now ∷ slice_split is_point rest.now) }
 {
     let (part, rest) = text.split_at(point_len(text));
     match rest {
