@@ -25,7 +25,7 @@ use Rattle.machine.specs.Code.{BlockHead}
 use Rattle.machine.specs.Entering.{at_block}
 use Rattle.machine.specs.Fitting.{IsMemoryOf, SameSizes}
 use Rattle.machine.specs.Flat.{code_of}
-use Rattle.machine.specs.Lasting.{FitsProgram, GoesOnFitting, IsStatementReady as IsReadyIn, StepFitsAgain, first_frame, ob_block}
+use Rattle.machine.specs.Lasting.{FitsProgram, GoesOnFitting, StepFitsAgain, first_frame, ob_block}
 use Rattle.machine.specs.Statement.{GlobalStore, StatementStep, Went, Ended, SyncError, SysCall, Stop as Stops, Stuck, statement_step}
 use Rattle.machine.proofs.Sizes.{same_sizes, sizes_then, same_parts}
 use Rattle.ob_sched.specs.TickState.{TickState, ob_requested}
@@ -737,9 +737,7 @@ ready l p s verifies fit = by s.activations fit.activations
     by : (activations : List Activation) → AllFit p s.store.memory activations
         → IsReady (code_of p) activations
     by [] all = tt
-    by (a ∷ below) all =
-        let r : IsReadyIn p a = l.goes p s.store.memory a verifies all.0 in
-        record { stands = r.stands; depth = r.depth; there = r.there }
+    by (a ∷ below) all = l.goes p s.store.memory a verifies all.0
 
 pub start_fits : MachineLaws → StartIsFit
 unfolding initial_state

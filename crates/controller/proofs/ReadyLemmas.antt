@@ -11,8 +11,9 @@ use Rattle.image_file.specs.Readers.{block_by_id, line_at_offset}
 use Rattle.machine.specs.Code.{Code, Fetched}
 use Rattle.flat_code.specs.Codes.{most_ops}
 use Rattle.machine.specs.Flat.{code_of, statement_fetched, op_run_at, OpRun, fetched_of}
+use Rattle.machine.specs.Lasting.{IsStatementReady}
 use Rattle.machine.specs.Statement.{GlobalStore, IsNotStuck, step_found, statement_step}
-use Rattle.controller.specs.Ready.{HasStatement, CanExecute}
+use Rattle.controller.specs.Ready.{HasStatement}
 use Rattle.controller.specs.Start.{global_store_at_rest}
 use Rattle.controller.specs.Stopping.{statement_spot}
 
@@ -63,7 +64,7 @@ unfolding HasStatement
 spot_read p block at there = block_spot block at (block_by_id block p.code_blocks) there
 
 -- where an activation can execute, a statement stands at the position of its innermost frame
-pub can_go_there : (code : Code) (a : Activation) → CanExecute code a
+pub can_go_there : (code : Code) (a : Activation) → IsStatementReady code a
     → HasStatement code a.running.frame.block a.running.frame.at
 can_go_there code a can =
     statement_there code a (global_store_at_rest Small code) (can.there (global_store_at_rest Small code))

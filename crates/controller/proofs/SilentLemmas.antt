@@ -28,7 +28,7 @@ use Rattle.controller.proofs.ObservingLemmas.{none_changed}
 -- ---- what fits stays ready
 
 abbrev pub GoesLaw : Type 0
-GoesLaw = (p : Program) (m : Areas) (a : Activation) → Verifies p → FitsProgram p m a → IsStatementReady p a
+GoesLaw = (p : Program) (m : Areas) (a : Activation) → Verifies p → FitsProgram p m a → IsStatementReady (code_of p) a
 
 abbrev pub LastsLaw : Type 0
 LastsLaw = (p : Program) (a : Activation) (w : GlobalStore)

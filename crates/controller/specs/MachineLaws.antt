@@ -26,7 +26,7 @@ use Rattle.machine.specs.Statement.{GlobalStore, statement_step}
 pub record MachineLaws : Type 0 where
   -- an activation that fits is ready for its next statement
   pub goes : (p : Program) (m : Areas) (a : Activation)
-      → Verifies p → FitsProgram p m a → IsStatementReady p a
+      → Verifies p → FitsProgram p m a → IsStatementReady (code_of p) a
   -- an activation that fits does so after its next statement too
   pub lasts : (p : Program) (a : Activation) (w : GlobalStore)
       → Verifies p → FitsProgram p w.memory a → StepFitsAgain p w (statement_step (code_of p) a w)

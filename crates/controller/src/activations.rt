@@ -3,7 +3,7 @@ ghost use Rattle.std.specs.Prelude.{◌≡◌, ◌<◌, ◌≤◌, false, [], �
 ghost use Rattle.std.specs.Option.{option_map};
 ghost use Rattle.frames.specs.Activations.{activation_begun, frame_begun};
 ghost use Rattle.machine.specs.Flat.{code_of};
-ghost use Rattle.machine.specs.Lasting.{ob_block as block_of_ob};
+ghost use Rattle.machine.specs.Lasting.{IsStatementReady, ob_block as block_of_ob};
 ghost use Rattle.machine.specs.Statement.{global_store};
 ghost use Rattle.ob_sched.specs.StartInformation.{ob_of_error};
 ghost use Rattle.ob_sched.specs.Views.{scheduler_of};
@@ -11,7 +11,7 @@ ghost use Rattle.controller.specs.Beginning.{ob_activation, with_start_bytes};
 ghost use Rattle.controller.specs.Errors.{error_in};
 ghost use Rattle.controller.specs.Leaves.{ObBegins, ErrorBegins, HandsRegsOn, LeavesStatementStep, ServesRunning, running_of};
 ghost use Rattle.controller.specs.SilentSteps.{GoesOnSilently, GoesOnReady, goes_on_silently};
-ghost use Rattle.controller.specs.Ready.{CanExecute, IsReady};
+ghost use Rattle.controller.specs.Ready.{IsReady};
 ghost use Rattle.controller.specs.Settling.{may_start};
 ghost use Rattle.controller.specs.Stopping.{running_spot, spot_of_frame};
 ghost use Rattle.controller.specs.Ticking.{active_obs};
@@ -74,7 +74,7 @@ impl Model for Activations {
 // The block of an activation's statement, and its line.
 #[tactic(auto, using(crate::proofs::ReadyLemmas::can_go_there))]
 fn spot_of(program: &Loaded, a: &Activation) -> Option<Spot>
-    requires { CanExecute (code_of program.now.program) a.now }
+    requires { IsStatementReady (code_of program.now.program) a.now }
     ensures { result ≡ spot_of_frame (code_of program.now.program) a.now.running.frame }
 {
     statement_start_at(program, a.running.frame.block, a.running.frame.at)

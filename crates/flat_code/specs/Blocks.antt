@@ -93,21 +93,30 @@ system_params n =
     else if n == 64 then Some (out_record width.Dword ∷ [])
     else None
 
--- what is called, as a CALL sees it: its kind (2 FC, 3 FB, 5 SFC), the bytes of an instance, the
--- parameters
-abbrev pub CalleeSignature : Type 0
-CalleeSignature = ℕ × ℕ × List ParameterRecord
+-- what is called, as a CALL sees it
+pub record CalleeSignature : Type 0 where
+  -- the kind of block: 2 FC, 3 FB, 5 SFC
+  pub kind : ℕ
+  -- how many bytes an instance has
+  pub instance_len : ℕ
+  -- the parameters by index
+  pub params : List ParameterRecord
+
+-- a block as a CALL sees it, without the number by which it was found
+abbrev pub callee_of_block : BlockSignature → CalleeSignature
+callee_of_block b = record { kind = b.kind; instance_len = b.instance_len; params = b.params }
 
 -- the first block of a kind (2 FC, 3 FB) and number, as a CALL sees it
 abbrev pub block_with : ℕ → ℕ → List BlockSignature → Option CalleeSignature
 block_with kind number [] = None
 block_with kind number (b ∷ bs) =
-    if b.kind == kind && b.number == number then Some (b.kind, b.instance_len, b.params)
+    if b.kind == kind && b.number == number then Some (callee_of_block b)
     else block_with kind number bs
 
 -- an SFC with these parameters, as a CALL sees it: it has no instance bytes
 abbrev pub callee_of_system : List ParameterRecord → CalleeSignature
-callee_of_system params = (kind_number kinds.Sfc, 0, params)
+callee_of_system params =
+    record { kind = kind_number kinds.Sfc; instance_len = 0; params = params }
 
 -- the block that is called, by kind and number: a system function (kind 5), or one of the program
 unfoldable pub callee_among : List BlockSignature → ℕ → ℕ → Option CalleeSignature
@@ -238,7 +247,7 @@ misfits_index environment (Some q) actual = misfits_parameter environment q actu
 abbrev pub misfits_callee : Environment → Option CalleeSignature → ℕ → Passed → Bool
 misfits_callee environment None index actual = false
 misfits_callee environment (Some s) index actual =
-    misfits_index environment (slice_get s.2 index) actual
+    misfits_index environment (slice_get s.params index) actual
 
 -- whether what is passed for an index doesn't fit the block that the operand of a CALL calls
 abbrev pub misfits_call : Environment → Operand → ℕ → Passed → Bool
@@ -272,9 +281,9 @@ is_short_instance needed (Some len) = nat_lt len needed
 -- the block has no parameters; one is given to function blocks alone, and is there and long enough
 abbrev pub is_bad_instance : List (ℕ × ℕ) → CalleeSignature → ℕ → Bool
 is_bad_instance data_lens s instance =
-    if s.0 == kind_number kinds.Fb
-    then (if instance == 0 then not (is_empty_list s.2)
-    else is_short_instance s.1 (length_of_data instance data_lens))
+    if s.kind == kind_number kinds.Fb
+    then (if instance == 0 then not (is_empty_list s.params)
+    else is_short_instance s.instance_len (length_of_data instance data_lens))
     else not (instance == 0)
 
 -- whether a call is fault 7: what is called is absent (None), a function or system function isn't
@@ -283,7 +292,7 @@ is_bad_instance data_lens s instance =
 abbrev pub is_bad_call : List (ℕ × ℕ) → Option CalleeSignature → ℕ → List OpData → Bool
 is_bad_call data_lens None instance before = true
 is_bad_call data_lens (Some s) instance before =
-    not (s.0 == kind_number kinds.Fb) && not (are_all_passed 0 s.2 before)
+    not (s.kind == kind_number kinds.Fb) && not (are_all_passed 0 s.params before)
     || is_bad_instance data_lens s instance
 
 -- ---- jumps

@@ -23,7 +23,7 @@ use Rattle.flat_code.specs.Image.{record_of_param, record_of_block}
 use Rattle.flat_code.specs.Loading.{lens_of}
 use Rattle.flat_code.specs.Table.{forms_of, has_memory_width}
 use Rattle.flat_code.specs.PlacedOps.{PlacedOp, starts_of_statements, begins_its_statement, last_op}
-use Rattle.flat_code.specs.Blocks.{signature_of, CalleeSignature, block_with, callee_among, is_odd_bit, is_past_locals, is_bad_place, lacks_width, writes_operand, parameter_meant, lacks_own_parameter, is_in_parameter, is_in_db, is_above, pass_before, is_stray_pass, is_bad_actual, misfits_index, misfits_callee, misfits_call, are_all_passed, is_bad_instance, is_bad_call, seven_if, operand_fault, call_fault_among}
+use Rattle.flat_code.specs.Blocks.{signature_of, CalleeSignature, callee_of_block, block_with, callee_among, is_odd_bit, is_past_locals, is_bad_place, lacks_width, writes_operand, parameter_meant, lacks_own_parameter, is_in_parameter, is_in_db, is_above, pass_before, is_stray_pass, is_bad_actual, misfits_index, misfits_callee, misfits_call, are_all_passed, is_bad_instance, is_bad_call, seven_if, operand_fault, call_fault_among}
 use Rattle.image_file.specs.Readers.{is_same_id, block_by_id}
 use Rattle.image_file.specs.VerifiedProgram.{IsVerifiedOp, LiesWithin, HasParam, FitsOperand, FitsPassed, FitsPrepared, block_signatures, FitsCall, FitsParameter, IsCalledBlock}
 use Rattle.image_file.proofs.ImageLemmas.{width_there}
@@ -158,21 +158,21 @@ among p b q o h is = subst (λ (z : Operand). call_fault_among (environment_in p
 fits_call : (p : Program) (q : PlacedOp) (kind number instance : ℕ) (found : Option CalleeSignature) → callee_among (block_signatures p) kind number ≡ found → is_bad_call (lens_of p.data_blocks) found instance q.before ≡ false → FitsCall p q kind number instance
 fits_call p q kind number instance None is e = absurd cc
 fits_call p q kind number instance (Some s) is e =
-    let o = or_parts (not (eqb s.0 3) && not (are_all_passed 0 s.2 q.before)) (is_bad_instance (lens_of p.data_blocks) s instance) e in
+    let o = or_parts (not (eqb s.kind 3) && not (are_all_passed 0 s.params q.before)) (is_bad_instance (lens_of p.data_blocks) s instance) e in
     record {
       called = s;
       there = is;
-      all = λ other. passed_all (ne_eqb s.0 3 other) o.0;
+      all = λ other. passed_all (ne_eqb s.kind 3 other) o.0;
       instance_fits = o.1;
     }
   where
-    passed_all : eqb s.0 3 ≡ false → (not (eqb s.0 3) && not (are_all_passed 0 s.2 q.before)) ≡ false → are_all_passed 0 s.2 q.before ≡ true
-    passed_all f e = not-false (are_all_passed 0 s.2 q.before) (rw f at e)
+    passed_all : eqb s.kind 3 ≡ false → (not (eqb s.kind 3) && not (are_all_passed 0 s.params q.before)) ≡ false → are_all_passed 0 s.params q.before ≡ true
+    passed_all f e = not-false (are_all_passed 0 s.params q.before) (rw f at e)
 
 pub call_fits : (p : Program) (b : CodeBlock) (q : PlacedOp) (kind number instance : ℕ) → IsVerifiedOp p b q → q.op.operand ≡ operand.Called kind number instance → FitsCall p q kind number instance
 call_fits p b q kind number instance h is = fits_call p q kind number instance (callee_among (block_signatures p) kind number) refl (seven_none _ (among p b q (operand.Called kind number instance) h is))
 
-fits_index : (p : Program) (b : CodeBlock) (called : CalleeSignature) (index : ℕ) (actual : Passed) (o : Option ParameterRecord) → slice_get called.2 index ≡ o → misfits_index (environment_in p b) o actual ≡ false → FitsParameter p b called index actual
+fits_index : (p : Program) (b : CodeBlock) (called : CalleeSignature) (index : ℕ) (actual : Passed) (o : Option ParameterRecord) → slice_get called.params index ≡ o → misfits_index (environment_in p b) o actual ≡ false → FitsParameter p b called index actual
 fits_index p b called index actual None is e = absurd cc
 fits_index p b called index actual (Some parameter) is e = record { parameter = parameter; there = is; fits = e }
 
@@ -182,13 +182,13 @@ passed_fits p b q index actual kind number instance called h is last there =
     let bad = seven_none _ (among p b q (operand.Pass index actual) h is) in
     let here : misfits_call (environment_in p b) (last_op q).operand index actual ≡ false = rw (eq-eqb (last_op q).code 0x78 code) at bad in
     let whom : misfits_callee (environment_in p b) (callee_among (block_signatures p) kind number) index actual ≡ false = subst (λ (z : Operand). misfits_call (environment_in p b) z index actual ≡ false) last here in
-    fits_index p b called index actual (slice_get called.2 index) refl (subst (λ (z : Option CalleeSignature). misfits_callee (environment_in p b) z index actual ≡ false) there whom)
+    fits_index p b called index actual (slice_get called.params index) refl (subst (λ (z : Option CalleeSignature). misfits_callee (environment_in p b) z index actual ≡ false) there whom)
 
 -- what is called among blocks
 record IsCalleeBlock (bs : List CodeBlock) (id : BlockId) (kind : ℕ) (called : CalleeSignature) : Type 0 where
   block : CodeBlock
   there : block_by_id id bs ≡ Some block
-  same : called ≡ (kind, block.instance_len, map record_of_param block.params)
+  same : called ≡ record { kind = kind; instance_len = block.instance_len; params = map record_of_param block.params }
 
 found_in : (bs : List CodeBlock) (id : BlockId) (kind : ℕ) (called : CalleeSignature) → ((k : BlockKind) → eqb (kind_number k) kind ≡ eqb (kind_order k) (kind_order id.kind)) → block_with kind id.number (map signature_of (map record_of_block bs)) ≡ Some called → IsCalleeBlock bs id kind called
 found_in [] id kind called agree e = absurd cc
@@ -196,14 +196,14 @@ found_in (b ∷ bs) id kind called agree e =
     by (eqb (kind_number b.id.kind) kind && eqb b.id.number id.number) refl (ap (λ (z : Bool). z && eqb b.id.number id.number) (sym (agree b.id.kind))) e (λ h. found_in bs id kind called agree h)
   where
     by : (t : Bool) → (eqb (kind_number b.id.kind) kind && eqb b.id.number id.number) ≡ t → is_same_id b.id id ≡ (eqb (kind_number b.id.kind) kind && eqb b.id.number id.number)
-        → cond t (Some (kind_number b.id.kind, b.instance_len, map record_of_param b.params)) (block_with kind id.number (map signature_of (map record_of_block bs))) ≡ Some called
+        → cond t (Some (callee_of_block (signature_of (record_of_block b)))) (block_with kind id.number (map signature_of (map record_of_block bs))) ≡ Some called
         → (block_with kind id.number (map signature_of (map record_of_block bs)) ≡ Some called → IsCalleeBlock bs id kind called) → IsCalleeBlock (b ∷ bs) id kind called
     by true t s e more =
         let k = eqb-true (kind_number b.id.kind) kind (and_parts (eqb (kind_number b.id.kind) kind) (eqb b.id.number id.number) t).0 in
         record {
           block = b;
           there = rw (s ∙ t) refl;
-          same = sym (same_Some (kind_number b.id.kind, b.instance_len, map record_of_param b.params) called e) ∙ ap (λ (n : ℕ). let c : CalleeSignature = (n, b.instance_len, map record_of_param b.params) in c) k;
+          same = sym (same_Some (callee_of_block (signature_of (record_of_block b))) called e) ∙ ap (λ (n : ℕ). let c : CalleeSignature = record { kind = n; instance_len = b.instance_len; params = map record_of_param b.params } in c) k;
         }
     by false t s e more = let m = more e in record { block = m.block; there = rw (s ∙ t) m.there; same = m.same }
 

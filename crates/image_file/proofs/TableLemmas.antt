@@ -10,9 +10,9 @@ use Rattle.plc_base.specs.declared.blocks.BlockKind.TheVariants as kinds
 use Rattle.flat_code.specs.Ops.{OpData}
 use Rattle.flat_code.specs.Codes.{size_of_op, code_bytes}
 use Rattle.flat_code.specs.declared.image_fields.OpenBracket.{OpenBracket}
-use Rattle.flat_code.specs.Blocks.{BlockSignature, block_with, length_of_data}
+use Rattle.flat_code.specs.Blocks.{BlockSignature, block_with, callee_of_block, length_of_data}
 use Rattle.flat_code.specs.PlacedOps.{StatementStart, starts_of_statements, statement_starts_from, statement_start_at, codes_of_few_brackets, brackets_after, zones_behind_op}
-use Rattle.image_file.specs.Tables.{start_index, no_index, table_entry, IsTableOf, FindsStatements, FindsLens, call_key, signature_callee, found_callee, FindsCallees}
+use Rattle.image_file.specs.Tables.{start_index, no_index, table_entry, IsTableOf, FindsStatements, FindsLens, call_key, found_callee, FindsCallees}
 use Rattle.image_file.proofs.CheckLemmas.{code_len}
 use Rattle.image_file.proofs.MarkLemmas.{two_bytes}
 
@@ -138,16 +138,16 @@ finds_lens ds keys len table keys_is room t number small =
     ∙ lens_found ds number
 
 -- a block at its place
-callee_moved : (b : BlockSignature) (bs : List BlockSignature) (o : Option ℕ) → option_map signature_callee (option_and_then (λ place. slice_get (b ∷ bs) place) (option_map suc o)) ≡ option_map signature_callee (option_and_then (λ place. slice_get bs place) o)
+callee_moved : (b : BlockSignature) (bs : List BlockSignature) (o : Option ℕ) → option_map callee_of_block (option_and_then (λ place. slice_get (b ∷ bs) place) (option_map suc o)) ≡ option_map callee_of_block (option_and_then (λ place. slice_get bs place) o)
 callee_moved b bs None = refl
 callee_moved b bs (Some k) = refl
 
-callees_found : (bs : List BlockSignature) (kind number key : ℕ) → ((b : BlockSignature) → eqb (call_key b) key ≡ (eqb b.kind kind && eqb b.number number)) → option_map signature_callee (option_and_then (λ place. slice_get bs place) (start_index key (map call_key bs))) ≡ block_with kind number bs
+callees_found : (bs : List BlockSignature) (kind number key : ℕ) → ((b : BlockSignature) → eqb (call_key b) key ≡ (eqb b.kind kind && eqb b.number number)) → option_map callee_of_block (option_and_then (λ place. slice_get bs place) (start_index key (map call_key bs))) ≡ block_with kind number bs
 callees_found [] kind number key tell = refl
 callees_found (b ∷ bs) kind number key tell = by (eqb (call_key b) key) (tell b) (callees_found bs kind number key tell)
   where
-    by : (t : Bool) → t ≡ (eqb b.kind kind && eqb b.number number) → option_map signature_callee (option_and_then (λ place. slice_get bs place) (start_index key (map call_key bs))) ≡ block_with kind number bs
-        → option_map signature_callee (option_and_then (λ place. slice_get (b ∷ bs) place) (cond t (Some 0) (option_map suc (start_index key (map call_key bs))))) ≡ cond (eqb b.kind kind && eqb b.number number) (Some (signature_callee b)) (block_with kind number bs)
+    by : (t : Bool) → t ≡ (eqb b.kind kind && eqb b.number number) → option_map callee_of_block (option_and_then (λ place. slice_get bs place) (start_index key (map call_key bs))) ≡ block_with kind number bs
+        → option_map callee_of_block (option_and_then (λ place. slice_get (b ∷ bs) place) (cond t (Some 0) (option_map suc (start_index key (map call_key bs))))) ≡ cond (eqb b.kind kind && eqb b.number number) (Some (callee_of_block b)) (block_with kind number bs)
     by true e more = rw (sym e) refl
     by false e more = rw (sym e) (callee_moved b bs (start_index key (map call_key bs)) ∙ more)
 
@@ -191,6 +191,6 @@ finds_callees bs keys table keys_is t = record {
   where
     found : (kind number key : ℕ) → key < 131072 → ((b : BlockSignature) → eqb (call_key b) key ≡ (eqb b.kind kind && eqb b.number number)) → found_callee bs table key ≡ block_with kind number bs
     found kind number key small tell =
-        ap (option_map signature_callee) (by_table bs keys 131072 table t (sym (ap length keys_is ∙ length-map bs call_key)) key small)
-        ∙ ap (λ (z : List ℕ). option_map signature_callee (option_and_then (λ place. slice_get bs place) (start_index key z))) keys_is
+        ap (option_map callee_of_block) (by_table bs keys 131072 table t (sym (ap length keys_is ∙ length-map bs call_key)) key small)
+        ∙ ap (λ (z : List ℕ). option_map callee_of_block (option_and_then (λ place. slice_get bs place) (start_index key z))) keys_is
         ∙ callees_found bs kind number key tell

@@ -1,10 +1,8 @@
 -- Checking the ops of a block.
 use Rattle.std.specs.Prelude.{ℕ, ◌≤◌, List, [], ◌∷◌}
 use Rattle.std.specs.Option.{option_map}
-use Rattle.std.specs.Borrow.{Bor}
 use Rattle.flat_code.specs.declared.image_fields.OpenBracket.{OpenBracket}
-use Rattle.flat_code.specs.declared.image_fields.ParameterRecord.{ParameterRecord}
-use Rattle.flat_code.specs.Blocks.{Environment, CalleeSignature}
+use Rattle.flat_code.specs.Blocks.{Environment}
 use Rattle.flat_code.specs.Ops.{OpData}
 use Rattle.flat_code.specs.PlacedOps.{PlacedOp}
 use Rattle.image_file.specs.declared.environments.BlockEnvironment.{BlockEnvironment}
@@ -19,10 +17,6 @@ environment_of s = record {
   blocks = s.blocks.now;
   data_lens = option_map (λ d. d.now) s.data_lens;
 }
-
--- a called block as a CALL sees it, by the kind, instance bytes and parameters that a search found
-abbrev pub callee_values : ℕ × ℕ × Bor (List ParameterRecord) → CalleeSignature
-callee_values r = (r.0, r.1, r.2.now)
 
 -- each of open brackets was opened at the offset `n` of the code or before
 abbrev pub AllUpTo : ℕ → List OpenBracket → Type 0

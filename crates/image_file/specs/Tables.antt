@@ -5,7 +5,7 @@ use Rattle.plc_base.specs.Kinds.{kind_number, kind_order}
 use Rattle.plc_base.specs.declared.blocks.BlockKind.TheVariants as kinds
 use Rattle.plc_base.specs.declared.blocks.BlockId.{BlockId}
 use Rattle.flat_code.specs.Codes.{code_bytes}
-use Rattle.flat_code.specs.Blocks.{BlockSignature, CalleeSignature, block_with, length_of_data}
+use Rattle.flat_code.specs.Blocks.{BlockSignature, CalleeSignature, callee_of_block, block_with, length_of_data}
 use Rattle.flat_code.specs.PlacedOps.{StatementStart, statement_start_at}
 use Rattle.flat_code.specs.Programs.{CodeBlock}
 use Rattle.image_file.specs.Readers.{block_by_id}
@@ -60,14 +60,10 @@ call_key b =
     else if b.kind == kind_number kinds.Fb then 2 * b.number + 1
     else 131072
 
--- a called block as a CALL sees it, without the number by which it was found
-abbrev pub signature_callee : BlockSignature → CalleeSignature
-signature_callee b = (b.kind, b.instance_len, b.params)
-
 -- the block that a table finds by a key (`call_key`), as a CALL sees it; None where it finds none
 abbrev pub found_callee : List BlockSignature → List ℕ → ℕ → Option CalleeSignature
 found_callee blocks table key =
-    option_map signature_callee
+    option_map callee_of_block
     (option_and_then (λ place. slice_get blocks place) (slice_get table key))
 
 -- a table finds what is called: it has at the key of a function or function block the index among

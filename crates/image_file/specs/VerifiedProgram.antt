@@ -292,7 +292,8 @@ pub record FitsCall (p : Program) (q : PlacedOp) (kind number instance : ℕ) : 
   -- a block of the program, or a system function, has the kind and number of the call
   pub there : callee_among (block_signatures p) kind number ≡ Some called
   -- each parameter is passed, but where a function block is called
-  pub all : (called.0 ≡ kind_number kinds.Fb → ⊥) → are_all_passed 0 called.2 q.before ≡ true
+  pub all : (called.kind ≡ kind_number kinds.Fb → ⊥)
+      → are_all_passed 0 called.params q.before ≡ true
   -- a function block is given an instance data block that is there and long enough, or none where
   -- it has no parameters; no other is given one
   pub instance_fits : is_bad_instance (lens_of p.data_blocks) called instance ≡ false
@@ -314,7 +315,7 @@ pub record FitsParameter
   -- the parameter to which the actual parameter is passed
   pub parameter : ParameterRecord
   -- the called block has the parameter at the index
-  pub there : slice_get called.2 index ≡ Some parameter
+  pub there : slice_get called.params index ≡ Some parameter
   -- the actual parameter fits the parameter
   pub fits :
       misfits_parameter
@@ -345,7 +346,13 @@ pub record IsCalledBlock (p : Program) (kind number : ℕ) (called : CalleeSigna
       block_by_id (record { kind = kind_of_number kind; number = number }) p.code_blocks
       ≡ Some block
   -- the call sees the kind, instance bytes and parameters of the block
-  pub same : called ≡ (kind, block.instance_len, map record_of_param block.params)
+  pub same :
+      called
+      ≡ record {
+        kind = kind;
+        instance_len = block.instance_len;
+        params = map record_of_param block.params;
+      }
 
 -- what a call of a function or function block finds is a block of the program, with the head that
 -- the call sees, whether the program verifies or not

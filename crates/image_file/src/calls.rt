@@ -1,10 +1,10 @@
 //! Calls: what a CALL, UC or CC may not do, and what its PASS ops may not pass.
 ghost use Rattle.std.specs.Prelude.{◌≡◌, None};
 ghost use Rattle.flat_code.specs.PlacedOps.{is_empty_list, PlacedOp, last_op};
-ghost use Rattle.flat_code.specs.Blocks.{CalleeSignature, is_short_instance, is_bad_instance, is_bad_call, are_all_passed, misfits_index, misfits_callee, misfits_call, callee_among};
+ghost use Rattle.flat_code.specs.Blocks.{is_short_instance, is_bad_instance, is_bad_call, are_all_passed, misfits_index, misfits_callee, misfits_call, callee_among};
 ghost use Rattle.image_file.specs.OpChecking.{environment_of};
 
-use crate::environments::{BlockEnvironment, DataLens, callee};
+use crate::environments::{BlockEnvironment, CalleeSignature, DataLens, callee};
 use crate::operands::{is_passed, misfits_parameter};
 use flat_code::{FUNCTION_BLOCK, Op, Operand, ParameterRecord, Passed};
 
@@ -18,20 +18,14 @@ fn is_short(needed: u16, len: Option<usize>) -> bool
     }
 }
 
-fn is_bad_instance(
-    lens: &DataLens,
-    kind: u8,
-    instance_len: u16,
-    params: &[ParameterRecord],
-    instance: u16,
-) -> bool
-    ensures { result ≡ is_bad_instance lens.now (kind, instance_len, params.now) instance }
+fn is_bad_instance(lens: &DataLens, called: &CalleeSignature<'_>, instance: u16) -> bool
+    ensures { result ≡ is_bad_instance lens.now called.now instance }
 {
-    if kind == FUNCTION_BLOCK {
+    if called.kind == FUNCTION_BLOCK {
         if instance == 0 {
-            !params.is_empty()
+            !called.params.is_empty()
         } else {
-            is_short(instance_len, lens.of(instance))
+            is_short(called.instance_len, lens.of(instance))
         }
     } else {
         instance != 0
@@ -65,9 +59,9 @@ pub(crate) fn is_bad_call(
 {
     match callee(environment.blocks, kind, number) {
         None => true,
-        Some((kind, instance_len, params)) => {
-            kind != FUNCTION_BLOCK && !are_passed(params, before)
-                || is_bad_instance(lens, kind, instance_len, params, instance)
+        Some(called) => {
+            called.kind != FUNCTION_BLOCK && !are_passed(called.params, before)
+                || is_bad_instance(lens, &called, instance)
         }
     }
 }
@@ -99,8 +93,9 @@ pub(crate) fn misfits_call(
     match last.operand {
         Operand::Called { kind, number, .. } => match callee(environment.blocks, kind, number) {
             None => false,
-            Some((_, _, params)) => {
-                misfits_index(environment, params.get(usize::from(index)).copied(), actual)
+            Some(called) => {
+                let parameter = called.params.get(usize::from(index)).copied();
+                misfits_index(environment, parameter, actual)
             }
         },
         _ => false,

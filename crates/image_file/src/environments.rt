@@ -1,9 +1,8 @@
 //! What surrounds a block whose ops are checked: its own head, and the blocks that it may call.
 ghost use Rattle.std.specs.Prelude.{◌≡◌, map, slice_get, IfOk};
 ghost use Rattle.std.specs.Option.{option_map};
-ghost use Rattle.flat_code.specs.Blocks.{block_with, callee_among};
-ghost use Rattle.image_file.specs.OpChecking.{callee_values};
-ghost use Rattle.image_file.specs.Tables.{call_key, signature_callee, found_callee};
+ghost use Rattle.flat_code.specs.Blocks.{block_with, callee_among, callee_of_block};
+ghost use Rattle.image_file.specs.Tables.{call_key, found_callee};
 
 use crate::tables::{place_at_offset, table_of};
 use flat_code::{
@@ -33,6 +32,42 @@ impl Model for SignatureRead {
       instance_len = s.instance_len;
       params = s.params.items;
     } };
+}
+
+/// What is called, as a CALL sees it.
+#[derive(Drop)]
+pub(crate) struct CalleeSignature<'a> {
+    pub kind: u8,
+    pub instance_len: u16,
+    pub params: &'a [ParameterRecord],
+}
+
+impl<'a> Model for CalleeSignature<'a> {
+    ghost use Rattle.flat_code.specs.Blocks.{CalleeSignature as CalleeSignatureData};
+
+    ghost Value = { CalleeSignatureData };
+
+    ghost view = { λ c. record {
+      kind = c.kind;
+      instance_len = c.instance_len;
+      params = c.params.now;
+    } };
+}
+
+impl SignatureRead {
+    ghost use Rattle.std.specs.Prelude.{◌≡◌};
+    ghost use Rattle.flat_code.specs.Blocks.{callee_of_block};
+
+    /// The block as a CALL sees it, without the number by which it was found.
+    fn callee(&self) -> CalleeSignature<'_>
+        ensures { result ≡ callee_of_block self.now }
+    {
+        CalleeSignature {
+            kind: self.kind,
+            instance_len: self.instance_len,
+            params: self.params.as_slice(),
+        }
+    }
 }
 
 /// The kind, local bytes and parameters of a block; the code blocks; the numbers and lengths of the
@@ -144,31 +179,29 @@ fn data_numbers(alloc: Global, lens: &[(u16, usize)]) -> Result<Vec<u32>, NoMemo
     Ok(numbers)
 }
 
-/// The block that is called: its kind, the bytes of an instance, its parameters.
+/// The block that is called.
 #[tactic(auto, unfolding(flat_code::specs::Blocks::callee_among))]
-pub(crate) fn callee(
-    blocks: &Signatures,
-    kind: u8,
-    number: u16,
-) -> Option<(u8, u16, &[ParameterRecord])>
-    ensures { option_map callee_values result ≡ callee_among blocks.now kind number }
+pub(crate) fn callee(blocks: &Signatures, kind: u8, number: u16) -> Option<CalleeSignature<'_>>
+    ensures { result ≡ callee_among blocks.now kind number }
 {
     if kind != SYSTEM_FUNCTION {
         return blocks.block_with(kind, number);
     }
     let params = system_function_records(number)?;
-    Some((SYSTEM_FUNCTION, 0, params))
+    Some(CalleeSignature {
+        kind: SYSTEM_FUNCTION,
+        instance_len: 0,
+        params,
+    })
 }
 
 impl Signatures {
-    ghost use Rattle.std.specs.Option.{option_map};
     ghost use Rattle.flat_code.specs.Blocks.{block_with};
-    ghost use Rattle.image_file.specs.OpChecking.{callee_values};
 
     /// The first block of a kind and number. Only functions and function blocks are called, so
     /// others may take a search.
-    fn block_with(&self, kind: u8, number: u16) -> Option<(u8, u16, &[ParameterRecord])>
-        ensures { option_map callee_values result ≡ block_with kind number self.now }
+    fn block_with(&self, kind: u8, number: u16) -> Option<CalleeSignature<'_>>
+        ensures { result ≡ block_with kind number self.now }
     {
         let number_key = 2 * u32::from(number);
         match kind {
@@ -188,33 +221,28 @@ fn found_callee<'a>(
     blocks: &'a [SignatureRead],
     table: &[u32],
     key: u32,
-) -> Option<(u8, u16, &'a [ParameterRecord])>
-    ensures { option_map callee_values result ≡ found_callee blocks.now table.now key }
+) -> Option<CalleeSignature<'a>>
+    ensures { result ≡ found_callee blocks.now table.now key }
 {
     let place = place_at_offset(table, key)?;
     callee_at_place(blocks, place)
 }
 
 /// The block at a place of a list.
-fn callee_at_place(blocks: &[SignatureRead], place: usize) -> Option<(u8, u16, &[ParameterRecord])>
-    ensures { option_map callee_values result
-        ≡ option_map signature_callee (slice_get blocks.now place) }
+fn callee_at_place(blocks: &[SignatureRead], place: usize) -> Option<CalleeSignature<'_>>
+    ensures { result ≡ option_map callee_of_block (slice_get blocks.now place) }
 {
     let block = blocks.get(place)?;
-    Some((block.kind, block.instance_len, block.params.as_slice()))
+    Some(block.callee())
 }
 
-/// The first block of a kind and number: its kind, the bytes of an instance, its parameters.
-fn block_by_search(
-    blocks: &[SignatureRead],
-    kind: u8,
-    number: u16,
-) -> Option<(u8, u16, &[ParameterRecord])>
-    ensures { option_map callee_values result ≡ block_with kind number blocks.now }
+/// The first block of a kind and number.
+fn block_by_search(blocks: &[SignatureRead], kind: u8, number: u16) -> Option<CalleeSignature<'_>>
+    ensures { result ≡ block_with kind number blocks.now }
 {
     for block in blocks {
         if block.kind == kind && block.number == number {
-            return Some((block.kind, block.instance_len, block.params.as_slice()));
+            return Some(block.callee());
         }
     }
     None

@@ -171,7 +171,7 @@ literal_of code index value actual right is =
 
 op_passing :
     (l : ImageLaws) (p : Program) (b : CodeBlock) (ps : List Param) (kind number instance : ℕ) (called : CalleeSignature) (last : OpData)
-    (q : PlacedOp) (index : ℕ) (actual : Passed) → AreParams ps called.2 → callee_among (block_signatures p) kind number ≡ Some called
+    (q : PlacedOp) (index : ℕ) (actual : Passed) → AreParams ps called.params → callee_among (block_signatures p) kind number ≡ Some called
     → last.operand ≡ operand.Called kind number instance → IsVerifiedOp p b q → last_op q ≡ last
     → q.op.operand ≡ operand.Pass index actual
     → (x : Param) × (slice_get ps index ≡ Some x) × FitsActual b.id.kind b.params x actual
@@ -184,7 +184,7 @@ op_passing l p b ps kind number instance called last q index actual params there
 
 pub passings_fit :
     (l : ImageLaws) (p : Program) (b : CodeBlock) (ps : List Param) (kind number instance : ℕ) (called : CalleeSignature) (last : OpData)
-    (ops : List OpData) → AreParams ps called.2 → callee_among (block_signatures p) kind number ≡ Some called
+    (ops : List OpData) → AreParams ps called.params → callee_among (block_signatures p) kind number ≡ Some called
     → last.operand ≡ operand.Called kind number instance → AllBefore p b last ops
     → PassingsFit b.id.kind b.params ps (passings_of ops)
 passings_fit l p b ps kind number instance called last [] params there calls all = tt

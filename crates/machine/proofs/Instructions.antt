@@ -34,7 +34,7 @@ use Rattle.flat_code.specs.declared.table.OperandForms.TheVariants as forms
 use Rattle.flat_code.specs.declared.operations.TheConstants.{OPERATIONS}
 use Rattle.flat_code.specs.declared.operations.Operation.{Operation}
 use Rattle.flat_code.specs.declared.operations.Operation.TheVariants as operation
-use Rattle.flat_code.specs.Blocks.{CalleeSignature, callee_among, system_params, are_all_passed, is_bad_instance, is_short_instance, length_of_data, leads_to_target, is_ju_operand, is_in_db, prepares_statement, writes_operand}
+use Rattle.flat_code.specs.Blocks.{CalleeSignature, callee_among, callee_of_system, system_params, are_all_passed, is_bad_instance, is_short_instance, length_of_data, leads_to_target, is_ju_operand, is_in_db, prepares_statement, writes_operand}
 use Rattle.flat_code.specs.Codes.{size_of_op}
 use Rattle.flat_code.specs.Instr.{Instr, Does, Jumps, JumpsByList, Calls, Returns}
 use Rattle.flat_code.specs.Kinds.{jump_of_number}
@@ -439,7 +439,7 @@ fit_of l p a w at kind number instance is =
 call_passes :
     (l : ImageLaws) (p : Program) (a : Activation) (w : GlobalStore) (at : At p a w) (kind number instance : ℕ) (ps : List Param)
     (is : at.here.run.last.operand ≡ operand.Called kind number instance)
-    → AreParams ps (fit_of l p a w at kind number instance is).called.2
+    → AreParams ps (fit_of l p a w at kind number instance is).called.params
     → PassingsFit a.running.frame.block.kind at.here.statement_start.b.params ps (passings_of at.here.run.before)
 call_passes l p a w at kind number instance ps is params =
     let fit = fit_of l p a w at kind number instance is in
@@ -450,13 +450,13 @@ call_passes l p a w at kind number instance ps is params =
 call_all :
     (l : ImageLaws) (p : Program) (a : Activation) (w : GlobalStore) (at : At p a w) (kind number instance : ℕ)
     (is : at.here.run.last.operand ≡ operand.Called kind number instance)
-    → ((fit_of l p a w at kind number instance is).called.0 ≡ 3 → ⊥)
-    → are_all_passed 0 (fit_of l p a w at kind number instance is).called.2 at.here.run.before ≡ true
+    → ((fit_of l p a w at kind number instance is).called.kind ≡ 3 → ⊥)
+    → are_all_passed 0 (fit_of l p a w at kind number instance is).called.params at.here.run.before ≡ true
 call_all l p a w at kind number instance is other =
     let fit = fit_of l p a w at kind number instance is in
     let before : at.here.run_end.last.before ≡ at.here.run.before =
     at.here.run_end.before ∙ ap (λ (z : List OpData). z ++ at.here.run.before) (none_before at.here.statement_start.q.before at.here.statement_start.begun) in
-    ap (are_all_passed 0 fit.called.2) (sym before) ∙ fit.all other
+    ap (are_all_passed 0 fit.called.params) (sym before) ∙ fit.all other
 
 behind_call :
     (l : ImageLaws) (p : Program) (a : Activation) (w : GlobalStore) (at : At p a w) (how : CallOperation)
@@ -467,9 +467,9 @@ behind_call l p a w at how is = record {
   statement_start = next_same l p a w at (operation.Call how) is refl (λ held. refl);
 }
 
-no_instance : (lens : List (ℕ × ℕ)) (called : CalleeSignature) (instance : ℕ) → (called.0 ≡ 3 → ⊥) → is_bad_instance lens called instance ≡ false → instance_named instance ≡ None
+no_instance : (lens : List (ℕ × ℕ)) (called : CalleeSignature) (instance : ℕ) → (called.kind ≡ 3 → ⊥) → is_bad_instance lens called instance ≡ false → instance_named instance ≡ None
 no_instance lens called instance other h =
-    let e : eqb called.0 3 ≡ false = ne_eqb called.0 3 other in
+    let e : eqb called.kind 3 ≡ false = ne_eqb called.kind 3 other in
     by (eqb instance 0) (rw e at h)
   where
     by : (t : Bool) → not t ≡ false → cond t None (Some instance) ≡ None
@@ -477,7 +477,7 @@ no_instance lens called instance other h =
     by false e = absurd cc
 
 has_instance :
-    (p : Program) (m : Areas) (b : CodeBlock) (called : CalleeSignature) (instance : ℕ) → called ≡ (3, b.instance_len, map record_of_param b.params)
+    (p : Program) (m : Areas) (b : CodeBlock) (called : CalleeSignature) (instance : ℕ) → called ≡ record { kind = 3; instance_len = b.instance_len; params = map record_of_param b.params }
     → IsMemoryOf (code_of p) m → is_bad_instance (lens_of p.data_blocks) called instance ≡ false
     → HasInstance kinds.Fb (block_head_of b) m (instance_named instance)
 has_instance p m b called instance is memory h = by (eqb instance 0) (rw is at h)
@@ -499,9 +499,9 @@ call_function l p a w at how number instance operation_is is =
     let fit = fit_of l p a w at 2 number instance is in
     let one = l.called p 2 number fit.called (inl refl) fit.there in
     let b = one.block in
-    let other : fit.called.0 ≡ 3 → ⊥ = λ e. let two : fit.called.0 ≡ 2 = ap (λ (z : CalleeSignature). z.0) one.same in omega (arith, e, two) in
-    let rs : fit.called.2 ≡ map record_of_param b.params = ap (λ (z : CalleeSignature). z.2) one.same in
-    let params : AreParams b.params fit.called.2 = subst (λ (z : List ParameterRecord). AreParams b.params z) (sym rs) (of_blocks b.params) in
+    let other : fit.called.kind ≡ 3 → ⊥ = λ e. let two : fit.called.kind ≡ 2 = ap (λ (z : CalleeSignature). z.kind) one.same in omega (arith, e, two) in
+    let rs : fit.called.params ≡ map record_of_param b.params = ap (λ (z : CalleeSignature). z.params) one.same in
+    let params : AreParams b.params fit.called.params = subst (λ (z : List ParameterRecord). AreParams b.params z) (sym rs) (of_blocks b.params) in
     let all : are_all_passed 0 (map record_of_param b.params) at.here.run.before ≡ true =
     ap (λ (z : List ParameterRecord). are_all_passed 0 z at.here.run.before) (sym rs) ∙ call_all l p a w at 2 number instance is other in
     rw (no_instance (lens_of p.data_blocks) fit.called instance other fit.instance_fits, head_there p (record { kind = kinds.Fc; number = number }) b one.there)
@@ -517,8 +517,8 @@ call_function_block l p a w at how number instance operation_is is =
     let fit = fit_of l p a w at 3 number instance is in
     let one = l.called p 3 number fit.called (inr refl) fit.there in
     let b = one.block in
-    let rs : fit.called.2 ≡ map record_of_param b.params = ap (λ (z : CalleeSignature). z.2) one.same in
-    let params : AreParams b.params fit.called.2 = subst (λ (z : List ParameterRecord). AreParams b.params z) (sym rs) (of_blocks b.params) in
+    let rs : fit.called.params ≡ map record_of_param b.params = ap (λ (z : CalleeSignature). z.params) one.same in
+    let params : AreParams b.params fit.called.params = subst (λ (z : List ParameterRecord). AreParams b.params z) (sym rs) (of_blocks b.params) in
     rw (head_there p (record { kind = kinds.Fb; number = number }) b one.there)
     (function_block_lasts l p a w at.here.run.next number at.here.statement_start.b b (instance_named instance) (passings_of at.here.run.before)
     (behind_call l p a w at how operation_is) at.here.statement_start.found one.there (call_passes l p a w at 3 number instance b.params is params)
@@ -528,10 +528,10 @@ call_function_block l p a w at how number instance operation_is is =
 record IsFunction (number : ℕ) (called : CalleeSignature) : Type 0 where
   records : List ParameterRecord
   is : system_params number ≡ Some records
-  same : called ≡ (5, 0, records)
+  same : called ≡ callee_of_system records
 
-function_found : (o : Option (List ParameterRecord)) (called : CalleeSignature) → option_map (λ (rs : List ParameterRecord). (5, 0, rs)) o ≡ Some called → (rs : List ParameterRecord) × (o ≡ Some rs) × (called ≡ (5, 0, rs))
-function_found (Some rs) called e = (rs, refl, sym (same_Some (5, 0, rs) called e))
+function_found : (o : Option (List ParameterRecord)) (called : CalleeSignature) → option_map callee_of_system o ≡ Some called → (rs : List ParameterRecord) × (o ≡ Some rs) × (called ≡ callee_of_system rs)
+function_found (Some rs) called e = (rs, refl, sym (same_Some (callee_of_system rs) called e))
 function_found None called e = absurd cc
 
 is_function : (p : Program) (number : ℕ) (called : CalleeSignature) → callee_among (block_signatures p) 5 number ≡ Some called → IsFunction number called
@@ -548,9 +548,9 @@ call_system_function :
 call_system_function l p a w at how number instance operation_is is =
     let fit = fit_of l p a w at 5 number instance is in
     let one = is_function p number fit.called fit.there in
-    let rs : fit.called.2 ≡ one.records = ap (λ (z : CalleeSignature). z.2) one.same in
-    let other : fit.called.0 ≡ 3 → ⊥ = λ e. let five : fit.called.0 ≡ 5 = ap (λ (z : CalleeSignature). z.0) one.same in omega (arith, e, five) in
-    let params : AreParams (map param_of_record one.records) fit.called.2 =
+    let rs : fit.called.params ≡ one.records = ap (λ (z : CalleeSignature). z.params) one.same in
+    let other : fit.called.kind ≡ 3 → ⊥ = λ e. let five : fit.called.kind ≡ 5 = ap (λ (z : CalleeSignature). z.kind) one.same in omega (arith, e, five) in
+    let params : AreParams (map param_of_record one.records) fit.called.params =
     subst (λ (z : List ParameterRecord). AreParams (map param_of_record one.records) z) (sym rs) (of_functions one.records) in
     let all : are_all_passed 0 one.records at.here.run.before ≡ true =
     ap (λ (z : List ParameterRecord). are_all_passed 0 z at.here.run.before) (sym rs) ∙ call_all l p a w at 5 number instance is other in

@@ -17,7 +17,7 @@ use Rattle.machine.proofs.Instructions.{statement_lasts}
 use Rattle.machine.proofs.Ready.{fits_goes}
 use Rattle.machine.proofs.Sizes.{same_sizes, memory_stays}
 
-pub ready_is : (l : ImageLaws) (p : Program) (m : Areas) (a : Activation) → Verifies p → FitsProgram p m a → IsStatementReady p a
+pub ready_is : (l : ImageLaws) (p : Program) (m : Areas) (a : Activation) → Verifies p → FitsProgram p m a → IsStatementReady (code_of p) a
 ready_is l p m a verifies h = record {
   stands = h.fits.stands;
   depth = depth_is (frames_of a) a.running.locals h.fits.locals;

@@ -11,7 +11,7 @@ use Rattle.plc_base.specs.declared.blocks.BlockKind.TheVariants as kinds
 use Rattle.plc_mem.specs.Areas.{Areas}
 use Rattle.frames.specs.declared.Activation.{Activation}
 use Rattle.frames.specs.declared.frame.Frame.{Frame}
-use Rattle.flat_code.specs.Blocks.{CalleeSignature, callee_among, system_params}
+use Rattle.flat_code.specs.Blocks.{CalleeSignature, callee_among, callee_of_system, system_params}
 use Rattle.flat_code.specs.Image.{param_of_record, kind_of_number}
 use Rattle.flat_code.specs.Instr.{Does, Passing}
 use Rattle.flat_code.specs.Kinds.{jump_of_number}
@@ -111,7 +111,7 @@ sfc_there :
     → callee_among (block_signatures p) kind number ≡ Some called → IsNumberCallable p number kinds.Sfc
 unfolding callee_among
 sfc_there p kind number called e h =
-    some_below (system_params number) (λ params. (5, 0, params)) (map param_of_record) called (rw e at h)
+    some_below (system_params number) callee_of_system (map param_of_record) called (rw e at h)
 
 pub kind_callable : (code kind number instance : ℕ) → is_op code (operand.Called kind number instance) ≡ true → is_callable_number kind ≡ true
 unfolding is_op

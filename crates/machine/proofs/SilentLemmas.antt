@@ -217,14 +217,14 @@ statement_in p b a w is = rw is refl
 
 pub there_of :
     (p : Program) (b : CodeBlock) (a : Activation) (w : GlobalStore) → block_by_id a.running.frame.block p.code_blocks ≡ Some b
-    → IsStatementReady p a → is_some (statement_fetched b a.running.frame.at) ≡ true
+    → IsStatementReady (code_of p) a → is_some (statement_fetched b a.running.frame.at) ≡ true
 there_of p b a w is ready =
     goes_there (code_of p) (statement_fetched b a.running.frame.at) a w (subst IsNotStuck (statement_in p b a w is) (ready.there w))
 
 -- so it has what it needs
 pub performs_there :
     (p : Program) (b : CodeBlock) (f : Fetched) (a : Activation) (w : GlobalStore)
-    → block_by_id a.running.frame.block p.code_blocks ≡ Some b → statement_fetched b a.running.frame.at ≡ Some f → IsStatementReady p a
+    → block_by_id a.running.frame.block p.code_blocks ≡ Some b → statement_fetched b a.running.frame.at ≡ Some f → IsStatementReady (code_of p) a
     → IsNotStuck (instruction_step (code_of p) f.instr f.next a w)
 performs_there p b f a w is found ready =
     subst IsNotStuck (statement_is p b f a w is found) (ready.there w)
@@ -233,7 +233,7 @@ performs_there p b f a w is found ready =
 pub found_passes :
     (p : Program) (b : CodeBlock) (a : Activation) (w : GlobalStore) (walk there : StatementWalk) → there ≡ walk
     → Some walk ≡ option_map (walk_with None) (op_run_at most_ops b.code a.running.frame.at)
-    → block_by_id a.running.frame.block p.code_blocks ≡ Some b → IsStatementReady p a
+    → block_by_id a.running.frame.block p.code_blocks ≡ Some b → IsStatementReady (code_of p) a
     → statement_fetched b a.running.frame.at ≡ Some (statement_of_walk b a.running.frame.at there)
 found_passes p b a w walk there same h is ready =
     found_there b a.running.frame.at walk there same (there_of p b a w is ready) h

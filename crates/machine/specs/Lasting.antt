@@ -20,6 +20,7 @@ use Rattle.machine.specs.declared.outcomes.Outcome.{Outcome}
 use Rattle.machine.specs.declared.outcomes.Outcome.TheVariants as outcome
 use Rattle.machine.specs.Values.{number_stored_at}
 use Rattle.machine.specs.Fitting.{IsMemoryOf, SameSizes, ActivationFits}
+use Rattle.machine.specs.Code.{Code}
 use Rattle.machine.specs.Flat.{code_of}
 use Rattle.machine.specs.OpenBrackets.{open_codes}
 use Rattle.machine.specs.SystemCalls.{system_function}
@@ -32,15 +33,15 @@ pub record FitsProgram (p : Program) (m : Areas) (a : Activation) : Type 0 where
   -- the activation fits the code and the memory
   pub fits : ActivationFits (code_of p) (open_codes p) m a
 
--- what a call of a statement of a program asks for: a frame stands, as many frames have local data as
--- stand, and nothing that the statement needs is missing
-pub record IsStatementReady (p : Program) (a : Activation) : Type 0 where
+-- an activation can execute its next statement in a code, which needn't be that of a program: a frame
+-- stands, as many frames have local data as stand, and nothing that the statement needs is missing
+pub record IsStatementReady (code : Code) (a : Activation) : Type 0 where
   -- a frame stands
   pub stands : a.ended ≡ false
   -- as many frames have local data as stand
   pub depth : length a.running.locals.starts ≡ length (frames_of a)
   -- nothing that the statement needs is missing, whatever memory, timers and counters are
-  pub there : (w : GlobalStore) → IsNotStuck (statement_step (code_of p) a w)
+  pub there : (w : GlobalStore) → IsNotStuck (statement_step code a w)
 
 -- an organization block by its number
 abbrev pub ob_block : ℕ → BlockId

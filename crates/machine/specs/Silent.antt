@@ -43,7 +43,7 @@ RunsSilently code (suc count) a b w after =
 abbrev pub StaysReady : Program → Activation → GlobalStore → Type 0
 StaysReady p a w =
     (count : ℕ) (b : Activation) (after : GlobalStore)
-    → RunsSilently (code_of p) count a b w after → IsStatementReady p b
+    → RunsSilently (code_of p) count a b w after → IsStatementReady (code_of p) b
 
 -- whether an instruction may write to the place of its operand: every address-register instruction
 -- counts as one that may, though only TAR1 and TAR2 do

@@ -56,7 +56,7 @@ fn what_verifying_gives()
 /// Of a program that verifies an activation that fits is ready: `statement` may be called.
 pub fn what_fits_goes()
     ensures { (p : Program) (m : Areas) (a : Activation)
-        → Verifies p → FitsProgram p m a → IsStatementReady p a }
+        → Verifies p → FitsProgram p m a → IsStatementReady (code_of p) a }
 {
     what_verifying_gives();
 }

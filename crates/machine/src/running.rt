@@ -201,7 +201,7 @@ fn pass(
     spare: &mut Bindings,
     other: &mut Outcome,
 ) -> Silent
-    requires ready { IsStatementReady c.now.program a.old }
+    requires ready { IsStatementReady (code_of c.now.program) a.old }
     requires there { IsNotStuck (instruction_step (code_of c.now.program)
         f.now.instr f.now.next a.old
         (global_store m.old t.old n.old)) }
@@ -234,7 +234,7 @@ fn pass_further(
     spare: &mut Bindings,
     other: &mut Outcome,
 ) -> Silent
-    requires ready { IsStatementReady c.now.program a.old }
+    requires ready { IsStatementReady (code_of c.now.program) a.old }
     requires block { block_by_id a.old.running.frame.block c.now.program.code_blocks
         ≡ Some code.now }
     requires walk { option_map (walk_with None)
@@ -276,7 +276,7 @@ fn pass_statement(
     spare: &mut Bindings,
     other: &mut Outcome,
 ) -> Silent
-    requires ready { IsStatementReady c.now.program a.old }
+    requires ready { IsStatementReady (code_of c.now.program) a.old }
     requires block { block_by_id a.old.running.frame.block c.now.program.code_blocks
         ≡ Some code.now }
     ensures goes { GoesOrStays (statement_step (code_of c.now.program)

@@ -14,7 +14,7 @@ use Rattle.plc_base.specs.declared.blocks.BlockKind.{BlockKind}
 use Rattle.plc_base.specs.declared.blocks.BlockKind.TheVariants as kinds
 use Rattle.plc_base.specs.declared.places.Width.{Width}
 use Rattle.plc_base.specs.declared.places.Width.TheVariants as width
-use Rattle.flat_code.specs.Blocks.{Environment, CalleeSignature, BlockSignature, at_offset, block_faults, block_with, call_fault, call_fault_among, callee_among, faults_over, is_bad_actual, is_bad_call, is_stray_pass, lacks_own_parameter, misfits_call, misfits_callee, misfits_index, op_faults, operand_fault, parameter_meant, seven_if, signature_of, callee_of_system, system_params}
+use Rattle.flat_code.specs.Blocks.{Environment, CalleeSignature, BlockSignature, at_offset, block_faults, block_with, call_fault, call_fault_among, callee_among, faults_over, is_bad_actual, is_bad_call, is_stray_pass, lacks_own_parameter, misfits_call, misfits_callee, misfits_index, op_faults, operand_fault, parameter_meant, seven_if, signature_of, callee_of_block, callee_of_system, system_params}
 use Rattle.flat_code.specs.Codes.{size_of_op}
 use Rattle.flat_code.specs.Image.{record_of_block, record_of_param}
 use Rattle.flat_code.specs.Loading.{AreVerified, Verifies, environment_of_block, lens_of}
@@ -224,7 +224,7 @@ found_kind kind number [] s codes e = absurd cc
 found_kind kind number (b ∷ bs) s (code, codes) e = by (kind_number b.id.kind == kind && b.id.number == number) refl e (λ f. found_kind kind number bs s codes f)
   where
     by : (t : Bool) → (kind_number b.id.kind == kind && b.id.number == number) ≡ t
-        → (if t then Some (kind_number b.id.kind, b.instance_len, map record_of_param b.params) else block_with kind number (map signature_of (map record_of_block bs))) ≡ Some s
+        → (if t then Some (callee_of_block (signature_in b)) else block_with kind number (map signature_of (map record_of_block bs))) ≡ Some s
         → (block_with kind number (map signature_of (map record_of_block bs)) ≡ Some s → (k : BlockKind) × (is_code k ≡ true) × (kind ≡ kind_number k))
         → (k : BlockKind) × (is_code k ≡ true) × (kind ≡ kind_number k)
     by true t f more = (b.id.kind, code, sym (eqb-true (kind_number b.id.kind) kind (and_parts _ _ t).0))
@@ -232,7 +232,7 @@ found_kind kind number (b ∷ bs) s (code, codes) e = by (kind_number b.id.kind 
 
 -- a parameter of the block that is found, among those of all blocks
 found_there : (k : BlockKind) (number : ℕ) (bs : List CodeBlock) (s : CalleeSignature) (index : ℕ) (r : ParameterRecord) (w : Width) → is_code k ≡ true → AllByRecursion (λ b. is_code b.id.kind ≡ true) bs
-    → block_with (kind_number k) number (map signature_of (map record_of_block bs)) ≡ Some s → slice_get s.2 index ≡ Some r → r.width ≡ width_number w
+    → block_with (kind_number k) number (map signature_of (map record_of_block bs)) ≡ Some s → slice_get s.params index ≡ Some r → r.width ≡ width_number w
     → slice_get (widths bs) (first_of bs (record { kind = k; number = number }) + index) ≡ Some w
 found_there k number [] s index r w is codes e there wide = absurd cc
 found_there k number (b ∷ bs) s index r w is (code, codes) e there wide =
@@ -245,11 +245,11 @@ found_there k number (b ∷ bs) s index r w is (code, codes) e there wide =
     own = map (λ (p : Param). p.width) b.params
 
     by : (t : Bool) → t ≡ is_same_block b.id id
-        → (if t then Some (kind_number b.id.kind, b.instance_len, map record_of_param b.params) else block_with (kind_number k) number (map signature_of (map record_of_block bs))) ≡ Some s
+        → (if t then Some (callee_of_block (signature_in b)) else block_with (kind_number k) number (map signature_of (map record_of_block bs))) ≡ Some s
         → (block_with (kind_number k) number (map signature_of (map record_of_block bs)) ≡ Some s → slice_get (widths bs) (first_of bs id + index) ≡ Some w)
         → slice_get (own ++ widths bs) ((if is_same_block b.id id then 0 else length b.params + first_of bs id) + index) ≡ Some w
     by true same f more =
-        let params : map record_of_param b.params ≡ s.2 = cc in
+        let params : map record_of_param b.params ≡ s.params = cc in
         let start : (if is_same_block b.id id then 0 else length b.params + first_of bs id) + index ≡ index =
         ap (λ (t : Bool). (if t then 0 else length b.params + first_of bs id) + index) (sym same) ∙ omega arith in
         ap (slice_get (own ++ widths bs)) start ∙ there_front own (widths bs) index w (record_there b.params index r w (ap (λ z. slice_get z index) params ∙ there) wide)
@@ -399,7 +399,7 @@ call_good a blocks first b kind number instance before among (s, found) h = by (
 
         joined : PassingsJoinWidths ws a last first other
         joined index own w lacks fits =
-            let r = fits_width a (slice_get s.2 index) own w (ap (λ z. misfits_callee a z index (passed.Parameter own w)) (sym there) ∙ fits) in
+            let r = fits_width a (slice_get s.params index) own w (ap (λ z. misfits_callee a z index (passed.Parameter own w)) (sym there) ∙ fits) in
             among.own own w (own_width a b.params own w among.params lacks)
             ∙ sym (ap (λ j. slice_get ws (first_of blocks (record { kind = j; number = number }) + index)) same
             ∙ found_there k.0 number blocks s index r.0 w k.1 among.codes (ap (λ n. block_with n number (map signature_of (map record_of_block blocks))) (sym k.2) ∙ inside) r.1 r.2)

@@ -78,7 +78,7 @@ pub record IsCalleeAgain (symbols : List Symbol) (t : Tree) (others : List Symbo
   pub kind : ℕ
   pub bytes : ℕ
   pub params : List ParameterRecord
-  pub flat : flat_callee (map signature_of (map record_of_block (program_in symbols t).code_blocks)) (kind_number id.kind) id.number ≡ Some (kind, bytes, params)
+  pub flat : flat_callee (map signature_of (map record_of_block (program_in symbols t).code_blocks)) (kind_number id.kind) id.number ≡ Some (record { kind = kind; instance_len = bytes; params = params })
   pub is_kind : kind ≡ kind_number id.kind
   pub formals : HasFormals (called_formals (signatures_in (program_in symbols t)) id) params
   pub count : length (called_formals (signatures_in (program_in symbols t)) id) ≡ length params
@@ -162,7 +162,7 @@ system_kind kinds.Db e = absurd cc
 system_kind kinds.Udt e = absurd cc
 
 system_flat : (blocks : List FlatSignature) (k : BlockKind) (n : ℕ) (params : List ParameterRecord) → k ≡ kinds.Sfc → system_params n ≡ Some params
-    → flat_callee blocks (kind_number k) n ≡ Some (kind_number kinds.Sfc, 0, params)
+    → flat_callee blocks (kind_number k) n ≡ Some (callee_of_system params)
 unfolding flat_callee
 system_flat blocks k n params is e = ap (λ j. flat_callee blocks (kind_number j) n) is ∙ ap (option_map callee_of_system) e
 

@@ -372,7 +372,7 @@ module _ (source file : List ℕ) (symbols : List Symbol) (t : Tree) (accepted :
         (split_holds (EndsBy l.local_len) b.body front s rest ends split) (split_holds StatementHasBytes b.body front s rest has_bytes split) how.0 cid instance how.1 sees)
 
     abbrev flat : FlatCallee
-    flat = (again_called.kind, again_called.bytes, again_called.params)
+    flat = record { kind = again_called.kind; instance_len = again_called.bytes; params = again_called.params }
 
     passed_here : ArePassed here (Some flat) None ps
     passed_here = subst (λ o. ArePassed here o None ps) again_called.flat fits.1

@@ -217,7 +217,7 @@ record IsCallee (symbols : List Symbol) (t : Tree) (k : ℕ) (blocks : List Bloc
   same : of_source.id ≡ id
   il : ℕ
   params : List ParameterRecord
-  flat : flat_callee blocks (kind_number id.kind) id.number ≡ Some (kind_number id.kind, il, params)
+  flat : flat_callee blocks (kind_number id.kind) id.number ≡ Some (record { kind = kind_number id.kind; instance_len = il; params = params })
   matched : Matched (ordered_formals t of_source) params
   found : AllByRecursion (IsFoundIn of_source.formals) (ordered_formals t of_source)
   result : Option Simple
@@ -237,10 +237,10 @@ known_function n k is e = by (system_formals n) (ap (λ (j : BlockKind). is_syst
 
 system_flat : (blocks : List BlockSignature) (id : BlockId) (params : List ParameterRecord)
     → id.kind ≡ kinds.Sfc → system_params id.number ≡ Some params
-    → flat_callee blocks (kind_number id.kind) id.number ≡ Some (kind_number id.kind, 0, params)
+    → flat_callee blocks (kind_number id.kind) id.number ≡ Some (record { kind = kind_number id.kind; instance_len = 0; params = params })
 unfolding flat_callee
 system_flat blocks id params is e =
-    subst (λ (j : BlockKind). flat_callee blocks (kind_number j) id.number ≡ Some (kind_number j, 0, params)) (sym is)
+    subst (λ (j : BlockKind). flat_callee blocks (kind_number j) id.number ≡ Some (record { kind = kind_number j; instance_len = 0; params = params })) (sym is)
     (ap (λ (o : Option (List ParameterRecord)). option_map callee_of_system o) e)
 
 system_called : (symbols : List Symbol) (t : Tree) (k : ℕ) (blocks : List BlockSignature)
@@ -463,17 +463,17 @@ lacking false fb all e f g = absurd cc
 
 -- how a call's instance is checked
 no_instance_right : (lens : List (ℕ × ℕ)) (kind il : ℕ) (params : List ParameterRecord)
-    → (kind == kind_number kinds.Fb) ≡ false → is_bad_instance lens (kind, il, params) 0 ≡ false
+    → (kind == kind_number kinds.Fb) ≡ false → is_bad_instance lens (record { kind = kind; instance_len = il; params = params }) 0 ≡ false
 no_instance_right lens kind il params e =
     ap (λ (t' : Bool). if t' then (if true then not (is_nothing_in params) else is_short_instance il (length_of_data 0 lens)) else not true) e
 
 bare_right : (lens : List (ℕ × ℕ)) (il : ℕ) (params : List ParameterRecord) → params ≡ []
-    → is_bad_instance lens (kind_number kinds.Fb, il, params) 0 ≡ false
+    → is_bad_instance lens (record { kind = kind_number kinds.Fb; instance_len = il; params = params }) 0 ≡ false
 bare_right lens il params e = ap (λ (ps : List ParameterRecord). not (is_nothing_in ps)) e
 
 given_right : (lens : List (ℕ × ℕ)) (il n len : ℕ) (params : List ParameterRecord)
     → (n == 0) ≡ false → length_of_data n lens ≡ Some len → nat_lt len il ≡ false
-    → is_bad_instance lens (kind_number kinds.Fb, il, params) n ≡ false
+    → is_bad_instance lens (record { kind = kind_number kinds.Fb; instance_len = il; params = params }) n ≡ false
 given_right lens il n len params e f g =
     ap (λ (t' : Bool). if t' then not (is_nothing_in params) else is_short_instance il (length_of_data n lens)) e
     ∙ ap (λ (o : Option ℕ). is_short_instance il o) f ∙ g
@@ -481,10 +481,10 @@ given_right lens il n len params e f g =
 -- a call of another block than a function block passes all, and has no instance
 call_right : (lens : List (ℕ × ℕ)) (kind il : ℕ) (params : List ParameterRecord) (ops : List OpData)
     → (kind == kind_number kinds.Fb) ≡ false → are_all_passed 0 params ops ≡ true
-    → is_bad_call lens (Some (kind, il, params)) 0 ops ≡ false
+    → is_bad_call lens (Some (record { kind = kind; instance_len = il; params = params })) 0 ops ≡ false
 call_right lens kind il params ops e f =
-    ap (λ (t' : Bool). (not (kind == kind_number kinds.Fb) && not t') || is_bad_instance lens (kind, il, params) 0) f
-    ∙ ap (λ (t' : Bool). (not t' && false) || is_bad_instance lens (kind, il, params) 0) e
+    ap (λ (t' : Bool). (not (kind == kind_number kinds.Fb) && not t') || is_bad_instance lens (record { kind = kind; instance_len = il; params = params }) 0) f
+    ∙ ap (λ (t' : Bool). (not t' && false) || is_bad_instance lens (record { kind = kind; instance_len = il; params = params }) 0) e
     ∙ no_instance_right lens kind il params e
 
 -- ---- an instance
@@ -822,7 +822,7 @@ module _ (symbols : List Symbol) (t : Tree) (tree : IsSoundTree symbols t)
       sound.well_formed.actuals sound.actuals ends.1 bytes.actuals m.rules.fits
 
   passes_right : (how : CallOperation) (id : BlockId) (instance : Option ℕ) (m : IsMadeCall how id instance)
-      → ArePassed a (Some (kind_number id.kind, m.cal.il, m.cal.params)) None
+      → ArePassed a (Some (record { kind = kind_number id.kind; instance_len = m.cal.il; params = m.cal.params })) None
       (passed_by m.cal.of_source)
   passes_right how id instance m =
       passed_from a (context_at symbols t k) m.cal.of_source.formals s.actuals (goods how id instance m)
@@ -866,7 +866,7 @@ module _ (symbols : List Symbol) (t : Tree) (tree : IsSoundTree symbols t)
   -- the instance of a function block
   instance_right : (how : CallOperation) (id : BlockId) (n : ℕ) (m : IsMadeCall how id (Some n))
       → is_function_block id.kind ≡ true
-      → is_bad_instance lens (3, m.cal.il, m.cal.params) n ≡ false
+      → is_bad_instance lens (record { kind = 3; instance_len = m.cal.il; params = m.cal.params }) n ≡ false
   instance_right how id n m fb =
       given_right lens m.cal.il n d.block.layout.length m.cal.params
       (ap (λ (i : ℕ). i == 0) number ∙ instance_number_right symbols t d.place d.block)
@@ -935,11 +935,11 @@ module _ (symbols : List Symbol) (t : Tree) (tree : IsSoundTree symbols t)
           (instance_none (context_at symbols t k) m.inst m.call.with_instance))))
 
   call_bad : (how : CallOperation) (id : BlockId) (instance : Option ℕ) (m : IsMadeCall how id instance)
-      → is_bad_call lens (Some (kind_number id.kind, m.cal.il, m.cal.params)) (number_or_zero instance) (pass_ops (passed_by m.cal.of_source)) ≡ false
+      → is_bad_call lens (Some (record { kind = kind_number id.kind; instance_len = m.cal.il; params = m.cal.params })) (number_or_zero instance) (pass_ops (passed_by m.cal.of_source)) ≡ false
   call_bad how id instance m = by instance m (is_function_block id.kind) refl
     where
       by : (instance : Option ℕ) (m : IsMadeCall how id instance) (fb : Bool) → is_function_block id.kind ≡ fb
-          → is_bad_call lens (Some (kind_number id.kind, m.cal.il, m.cal.params)) (number_or_zero instance)
+          → is_bad_call lens (Some (record { kind = kind_number id.kind; instance_len = m.cal.il; params = m.cal.params })) (number_or_zero instance)
           (pass_ops (passed_by m.cal.of_source)) ≡ false
       by None m false e =
           call_right lens (kind_number id.kind) m.cal.il m.cal.params (pass_ops (passed_by m.cal.of_source))
@@ -971,7 +971,7 @@ module _ (symbols : List Symbol) (t : Tree) (tree : IsSoundTree symbols t)
           (sound.well_formed.no_actuals none)
           ∙ none_passed (context_at symbols t k) 0 (ordered_formals t m.cal.of_source))
 
-      flat_is : flat_callee a.blocks (kind_number id.kind) id.number ≡ Some (kind_number id.kind, m.cal.il, m.cal.params)
+      flat_is : flat_callee a.blocks (kind_number id.kind) id.number ≡ Some (record { kind = kind_number id.kind; instance_len = m.cal.il; params = m.cal.params })
       flat_is = ap (λ (sg : List BlockSignature). flat_callee sg (kind_number id.kind) id.number) blocks ∙ m.cal.flat
 
   -- it names what it calls

@@ -227,7 +227,7 @@ pub called_block : (symbols : List Symbol) (t : Tree) → IsSoundTree symbols t 
     → is_code id.kind ≡ true
     → block_with (kind_number id.kind) id.number
     (map signature_of (map record_of_block (map compiled_block (code_blocks_of t symbols (layouts_of t symbols)))))
-    ≡ Some (kind_number id.kind, instance_len b l, map record_of_param (params_of b l))
+    ≡ Some (record { kind = kind_number id.kind; instance_len = instance_len b l; params = map record_of_param (params_of b l) })
 called_block symbols t tree p b l id h is code =
     finds (kind_number id.kind) id.number (instance_len b l) (map record_of_param (params_of b l))
     (code_blocks_of t symbols (layouts_of t symbols))
