@@ -1,5 +1,6 @@
 -- In a program that verifies both ends of each passing have one width.
 use Rattle.std.proofs.Common.{◌≡◌, ℕ, zero, suc, ◌+◌, Bool, true, false, not, List, [], ◌∷◌, ◌++◌, append_assoc, length, length-append, map, Option, Some, None, refl, sym, ap, subst, ◌∙◌, arith}
+use Rattle.std.proofs.lemmas.Option.{same_Some}
 use Rattle.std.specs.Prelude.{◌==◌, ◌&&◌, ◌||◌, if◌then◌else◌, nat_eq, slice_get, unwrap_or}
 use Rattle.std.specs.List.{AllByRecursion}
 use Rattle.std.specs.Option.{option_map}
@@ -14,7 +15,7 @@ use Rattle.plc_base.specs.declared.blocks.BlockKind.{BlockKind}
 use Rattle.plc_base.specs.declared.blocks.BlockKind.TheVariants as kinds
 use Rattle.plc_base.specs.declared.places.Width.{Width}
 use Rattle.plc_base.specs.declared.places.Width.TheVariants as width
-use Rattle.flat_code.specs.Blocks.{Environment, CalleeSignature, BlockSignature, at_offset, block_faults, block_with, call_fault, call_fault_among, callee_among, faults_over, is_bad_actual, is_bad_call, is_stray_pass, lacks_own_parameter, misfits_call, misfits_callee, misfits_index, op_faults, operand_fault, parameter_meant, seven_if, signature_of, callee_of_block, callee_of_system, system_params}
+use Rattle.flat_code.specs.Blocks.{Environment, CalleeSignature, at_offset, block_faults, block_with, call_fault, call_fault_among, callee_among, faults_over, is_bad_actual, is_bad_call, is_stray_pass, lacks_own_parameter, misfits_call, misfits_callee, misfits_index, op_faults, operand_fault, parameter_meant, seven_if, signature_of, callee_of_block, callee_of_system, system_params}
 use Rattle.flat_code.specs.Codes.{size_of_op}
 use Rattle.flat_code.specs.Image.{record_of_block, record_of_param}
 use Rattle.flat_code.specs.Loading.{AreVerified, Verifies, environment_of_block, lens_of}
@@ -214,9 +215,6 @@ same_kinds kinds.Fb kinds.Fc c d = refl
 same_kinds kinds.Fb kinds.Fb c d = refl
 same_kinds j k c d = absurd cc
 
-signature_in : CodeBlock → BlockSignature
-signature_in b = signature_of (record_of_block b)
-
 -- the kind of a block that is found
 found_kind : (kind number : ℕ) (bs : List CodeBlock) (s : CalleeSignature) → AllByRecursion (λ b. is_code b.id.kind ≡ true) bs → block_with kind number (map signature_of (map record_of_block bs)) ≡ Some s
     → (k : BlockKind) × (is_code k ≡ true) × (kind ≡ kind_number k)
@@ -224,7 +222,7 @@ found_kind kind number [] s codes e = absurd cc
 found_kind kind number (b ∷ bs) s (code, codes) e = by (kind_number b.id.kind == kind && b.id.number == number) refl e (λ f. found_kind kind number bs s codes f)
   where
     by : (t : Bool) → (kind_number b.id.kind == kind && b.id.number == number) ≡ t
-        → (if t then Some (callee_of_block (signature_in b)) else block_with kind number (map signature_of (map record_of_block bs))) ≡ Some s
+        → (if t then Some (callee_of_block (signature_of (record_of_block b))) else block_with kind number (map signature_of (map record_of_block bs))) ≡ Some s
         → (block_with kind number (map signature_of (map record_of_block bs)) ≡ Some s → (k : BlockKind) × (is_code k ≡ true) × (kind ≡ kind_number k))
         → (k : BlockKind) × (is_code k ≡ true) × (kind ≡ kind_number k)
     by true t f more = (b.id.kind, code, sym (eqb-true (kind_number b.id.kind) kind (and_parts _ _ t).0))
@@ -245,11 +243,11 @@ found_there k number (b ∷ bs) s index r w is (code, codes) e there wide =
     own = map (λ (p : Param). p.width) b.params
 
     by : (t : Bool) → t ≡ is_same_block b.id id
-        → (if t then Some (callee_of_block (signature_in b)) else block_with (kind_number k) number (map signature_of (map record_of_block bs))) ≡ Some s
+        → (if t then Some (callee_of_block (signature_of (record_of_block b))) else block_with (kind_number k) number (map signature_of (map record_of_block bs))) ≡ Some s
         → (block_with (kind_number k) number (map signature_of (map record_of_block bs)) ≡ Some s → slice_get (widths bs) (first_of bs id + index) ≡ Some w)
         → slice_get (own ++ widths bs) ((if is_same_block b.id id then 0 else length b.params + first_of bs id) + index) ≡ Some w
     by true same f more =
-        let params : map record_of_param b.params ≡ s.params = cc in
+        let params : map record_of_param b.params ≡ s.params = ap (λ (c : CalleeSignature). c.params) (same_Some (callee_of_block (signature_of (record_of_block b))) s f) in
         let start : (if is_same_block b.id id then 0 else length b.params + first_of bs id) + index ≡ index =
         ap (λ (t : Bool). (if t then 0 else length b.params + first_of bs id) + index) (sym same) ∙ omega arith in
         ap (slice_get (own ++ widths bs)) start ∙ there_front own (widths bs) index w (record_there b.params index r w (ap (λ z. slice_get z index) params ∙ there) wide)

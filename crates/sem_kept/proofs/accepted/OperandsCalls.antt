@@ -826,7 +826,7 @@ module _ (symbols : List Symbol) (t : Tree) (tree : IsSoundTree symbols t)
       (passed_by m.cal.of_source)
   passes_right how id instance m =
       passed_from a (context_at symbols t k) m.cal.of_source.formals s.actuals (goods how id instance m)
-      (kind_number id.kind) m.cal.il m.cal.params None 0
+      (record { kind = kind_number id.kind; instance_len = m.cal.il; params = m.cal.params }) None 0
       (ordered_formals t m.cal.of_source) [] m.cal.params
       (λ n e. refl) m.cal.matched m.cal.found refl refl
 

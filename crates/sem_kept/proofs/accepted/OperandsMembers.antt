@@ -11,7 +11,7 @@ use Rattle.plc_base.specs.declared.blocks.BlockKind.TheVariants as kinds
 use Rattle.plc_base.proofs.ListLemmas.{all_front, all_back}
 use Rattle.std.proofs.lemmas.List.{length-replicate}
 use Rattle.plc_base.proofs.TruthLemmas.{and_first, and_second}
-use Rattle.flat_code.specs.Blocks.{BlockSignature, block_with, length_of_data, signature_of}
+use Rattle.flat_code.specs.Blocks.{BlockSignature, block_with, callee_of_block, length_of_data, signature_of}
 use Rattle.flat_code.specs.Image.{record_of_block, record_of_param}
 use Rattle.flat_code.specs.Loading.{lens_of}
 use Rattle.flat_code.specs.Programs.{DataBlock}
@@ -190,24 +190,24 @@ finds : (kind number il : ℕ) (ps : List ParameterRecord) (bs : List StatedBloc
     → ((sig_of b).instance_len ≡ il) × ((sig_of b).params ≡ ps)) bs
     → (AllByRecursion (λ b. matches kind number b ≡ false) bs → ⊥)
     → block_with kind number (map signature_of (map record_of_block (map compiled_block bs)))
-    ≡ Some (kind, il, ps)
+    ≡ Some (record { kind = kind; instance_len = il; params = ps })
 finds kind number il ps [] h some = absurd (some tt)
 finds kind number il ps (b ∷ bs) h some =
     by (matches kind number b) refl (finds kind number il ps bs h.1)
   where
     by : (t : Bool) → matches kind number b ≡ t
         → ((AllByRecursion (λ b. matches kind number b ≡ false) bs → ⊥)
-        → block_with kind number (map signature_of (map record_of_block (map compiled_block bs))) ≡ Some (kind, il, ps))
-        → (if t then Some ((sig_of b).kind, (sig_of b).instance_len, (sig_of b).params)
+        → block_with kind number (map signature_of (map record_of_block (map compiled_block bs))) ≡ Some (record { kind = kind; instance_len = il; params = ps }))
+        → (if t then Some (callee_of_block (sig_of b))
         else block_with kind number (map signature_of (map record_of_block (map compiled_block bs))))
-        ≡ Some (kind, il, ps)
+        ≡ Some (record { kind = kind; instance_len = il; params = ps })
     by true is more =
         let kinds_same : (sig_of b).kind ≡ kind
         = eqb-true (sig_of b).kind kind (and_first ((sig_of b).kind == kind) ((sig_of b).number == number) is) in
         let rest = h.0 is in
-        ap (λ (k : ℕ). Some (k, (sig_of b).instance_len, (sig_of b).params)) kinds_same
-        ∙ ap (λ (n : ℕ). Some (kind, n, (sig_of b).params)) rest.0
-        ∙ ap (λ (qs : List ParameterRecord). Some (kind, il, qs)) rest.1
+        ap (λ (k : ℕ). Some (record { kind = k; instance_len = (sig_of b).instance_len; params = (sig_of b).params })) kinds_same
+        ∙ ap (λ (n : ℕ). Some (record { kind = kind; instance_len = n; params = (sig_of b).params })) rest.0
+        ∙ ap (λ (qs : List ParameterRecord). Some (record { kind = kind; instance_len = il; params = qs })) rest.1
     by false is more = more (λ none. some (is, none))
 
 code_kind_same : (j k : BlockKind) → is_code j ≡ true → is_code k ≡ true

@@ -9,7 +9,7 @@ use Rattle.plc_base.specs.declared.places.Area.TheVariants as area
 use Rattle.plc_base.specs.declared.places.Width.{Width}
 use Rattle.plc_base.specs.declared.places.Width.TheVariants as width
 use Rattle.flat_code.specs.Records.{section_in}
-use Rattle.flat_code.specs.Blocks.{Environment, is_above, is_bad_actual, is_bad_place, is_in_parameter as is_input_parameter, is_odd_bit, is_past_locals, literal_fits, misfits_index, misfits_parameter, parameter_meant}
+use Rattle.flat_code.specs.Blocks.{CalleeSignature, Environment, is_above, is_bad_actual, is_bad_place, is_in_parameter as is_input_parameter, is_odd_bit, is_past_locals, literal_fits, misfits_index, misfits_parameter, parameter_meant}
 use Rattle.flat_code.specs.declared.image_fields.ParameterRecord.{ParameterRecord}
 use Rattle.flat_code.specs.declared.operands.Passed.{Passed}
 use Rattle.flat_code.specs.declared.operands.Passed.TheVariants as passed
@@ -305,12 +305,12 @@ there_at front r rs i e n =
     ∙ ap (λ (k : ℕ). slice_get (front ++ r ∷ rs) k) (sym n) ∙ there front r rs
 
 module _ (a : Environment) (c : Context) (formals : List Formal) (actuals : List Actual)
-    (good : AllByRecursion (IsGoodActual a c formals) actuals) (kind il : ℕ)
-    (all : List ParameterRecord) where
+    (good : AllByRecursion (IsGoodActual a c formals) actuals)
+    (called : CalleeSignature) where
   pub passed_from : (before : Option ℕ) (i : ℕ) (fs : List Formal) (front rs : List ParameterRecord)
       → Under before i → Matched fs rs → AllByRecursion (IsFoundIn formals) fs
-      → all ≡ front ++ rs → length front ≡ i
-      → ArePassed a (Some (kind, il, all)) before (passings_from c actuals i fs)
+      → called.params ≡ front ++ rs → length front ≡ i
+      → ArePassed a (Some called) before (passings_from c actuals i fs)
   passed_from before i [] front rs under matched found e n = tt
   passed_from before i (f ∷ fs) front [] under matched found e n = absurd matched
   passed_from before i (f ∷ fs) front (r ∷ rs) under matched found e n =
@@ -323,11 +323,11 @@ module _ (a : Environment) (c : Context) (formals : List Formal) (actuals : List
       longer (x ∷ xs) = ap suc (longer xs)
 
       one : (x : Actual) → Passes a c r x.value
-          → ((last : Option ℕ) → Under last (suc i) → ArePassed a (Some (kind, il, all)) last (passings_from c actuals (suc i) fs))
-          → ArePassed a (Some (kind, il, all)) before
+          → ((last : Option ℕ) → Under last (suc i) → ArePassed a (Some called) last (passings_from c actuals (suc i) fs))
+          → ArePassed a (Some called) before
           (with_index i (passed_resolution x.value (resolution_of c x.value)) ++ passings_from c actuals (suc i) fs)
       one x p more =
-          subst (λ (o : Option Passed). ArePassed a (Some (kind, il, all)) before (with_index i o ++ passings_from c actuals (suc i) fs))
+          subst (λ (o : Option Passed). ArePassed a (Some called) before (with_index i o ++ passings_from c actuals (suc i) fs))
           (sym p.is) (
             under i (omega arith),
             p.right,
@@ -336,8 +336,8 @@ module _ (a : Environment) (c : Context) (formals : List Formal) (actuals : List
           )
 
       by : (o : Option Actual) → actual_of_formal actuals f ≡ o
-          → ((last : Option ℕ) → Under last (suc i) → ArePassed a (Some (kind, il, all)) last (passings_from c actuals (suc i) fs))
-          → ArePassed a (Some (kind, il, all)) before (passed_actual c i o ++ passings_from c actuals (suc i) fs)
+          → ((last : Option ℕ) → Under last (suc i) → ArePassed a (Some called) last (passings_from c actuals (suc i) fs))
+          → ArePassed a (Some called) before (passed_actual c i o ++ passings_from c actuals (suc i) fs)
       by None is more = more before (under_next before i under)
       by (Some x) is more =
           one x (supplied_passes a c formals actuals f r x good found.0 matched.0 is) more
