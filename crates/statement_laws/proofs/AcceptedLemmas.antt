@@ -6,7 +6,7 @@ use Rattle.std.proofs.lemmas.Bool.{false≢true}
 use Rattle.plc_base.specs.Kinds.{is_data_block, is_system_function}
 use Rattle.plc_base.specs.declared.blocks.BlockId.{BlockId}
 use Rattle.stl_ast.specs.Literals.{AreBytes}
-use Rattle.stl_ast.specs.Statements.{is_empty_statement, is_call}
+use Rattle.stl_ast.specs.Statements.{is_empty_statement}
 use Rattle.stl_ast.specs.declared.blocks.Block.{Block}
 use Rattle.stl_ast.specs.declared.blocks.PathStep.{PathStep}
 use Rattle.stl_ast.specs.declared.blocks.Tree.{Tree}
@@ -29,7 +29,7 @@ use Rattle.block_layout.specs.Cells.{components_of}
 use Rattle.block_layout.specs.declared.blocks.BlockLayout.{BlockLayout}
 use Rattle.block_layout.specs.declared.cells.Cell.{Cell}
 use Rattle.block_layout.specs.declared.cells.Element.{Element}
-use Rattle.stl_types.specs.Context.{Context, data_number, data_place, whole_place, is_of_function}
+use Rattle.stl_types.specs.Context.{Context, data_number, data_place, whole_place}
 use Rattle.stl_types.specs.Parameters.{callee_of}
 use Rattle.stl_types.specs.Resolution.{resolution_of_call, id_at, instance_number, resolution_of, whole_called_block}
 use Rattle.stl_types.specs.ResolvedStatement.{resolved_operand}
@@ -37,7 +37,6 @@ use Rattle.stl_types.specs.declared.resolved_operands.Resolution.{Resolution}
 use Rattle.stl_types.specs.declared.resolved_operands.Resolution.TheVariants.{Resolved, Unknown, Unjudged}
 use Rattle.stl_types.specs.declared.resolved_operands.ResolvedOperand.{ResolvedOperand}
 use Rattle.stl_types.specs.declared.resolved_operands.ResolvedOperand.TheVariants as resolved
-use Rattle.stl_types.specs.Lists.{is_list_jump}
 use Rattle.stl_codegen.specs.Instruction.{instruction}
 use Rattle.stl_codegen.specs.Operations.{call_operation_of, jump_operation_of}
 use Rattle.stl_codegen.specs.PassedParameters.{passed_resolution, passed_by_operand}
@@ -57,10 +56,10 @@ use Rattle.sem_kept.proofs.accepted.OperandsViews.{function_kind, ids_same}
 use Rattle.sem_kept.proofs.accepted.Settled.{statements_settle}
 use Rattle.statement_laws.specs.AcceptedStatements.{AcceptedOperandsAreNamed, AcceptedStatementsAct, ActsOnItsOperand, CallsNamed, DoesAsWritten, IsNamed, IsNamedStatement, GoesByJumpList, JumpsToLabel, NamesCalled, is_no_branch}
 use Rattle.statement_laws.specs.Effects.{effect_of_statement}
-use Rattle.statement_laws.specs.Laws.{Acts, HasElementaryParameters, IsNamedActual, has_fixed_name, is_bit_logic, is_comparison, is_data_block_instruction, is_elementary_component, is_block_end, is_idle, is_load_or_transfer, is_number_instruction, is_plain_jump, is_relay, is_shift, is_timing, is_variable, stays_inside}
+use Rattle.statement_laws.specs.Laws.{Acts, HasElementaryParameters, IsNamedActual, has_fixed_name, is_bit_logic, is_comparison, is_data_block_instruction, is_elementary_component, is_block_end, is_idle, is_load_or_transfer, is_number_instruction, is_plain_jump, is_relay, is_shift, is_timing, is_variable, stays_inside, is_call_instruction, is_jump_by_list}
 use Rattle.statement_laws.specs.NamedOperands.{NamedItem}
 use Rattle.statement_laws.specs.NamedOperands as named
-use Rattle.statement_laws.specs.Operands.{item_named_by, with_instance}
+use Rattle.statement_laws.specs.Operands.{item_named_by, with_instance, is_fc_block}
 use Rattle.statement_laws.proofs.CallLemmas.{calls_act}
 use Rattle.statement_laws.proofs.CoverLemmas.{has_no_name, named_there, operands_are_named}
 use Rattle.statement_laws.proofs.FamilyLemmas as families
@@ -86,7 +85,7 @@ plain_parameters symbols t k b l block fc =
     (all_mapped IsParameterCell (λ (cell : Cell). is_elementary_component cell ≡ true) plain_cell
     (components_of (types_of_source symbols t.blocks) b)
     (function_components (types_of_source symbols t.blocks) b block.well_formed
-    (function_kind b.kind (sym (ap is_of_function block.block_there) ∙ fc))))
+    (function_kind b.kind (sym (ap is_fc_block block.block_there) ∙ fc))))
 
 -- no index of a path lies outside its array
 
@@ -283,13 +282,13 @@ record IsCall (m : Mnemonic) : Type 0 where
   no_jump : jump_operation_of m ≡ None
   is : call_operation_of m ≡ Some how
 
-call_is : (m : Mnemonic) → is_call m ≡ true → IsCall m
+call_is : (m : Mnemonic) → is_call_instruction m ≡ true → IsCall m
 call_is code.Call e = record { how = how_called.Call; no_jump = refl; is = refl }
 call_is code.Uc e = record { how = how_called.Uc; no_jump = refl; is = refl }
 call_is code.Cc e = record { how = how_called.Cc; no_jump = refl; is = refl }
 call_is _ e = absurd (false≢true e)
 
-call_settled : (c : Context) (body : List Statement) (s : Statement) → is_call s.code ≡ true
+call_settled : (c : Context) (body : List Statement) (s : Statement) → is_call_instruction s.code ≡ true
     → IsResolvedStatement c body s → HasCalled c s
 call_settled c body s is settled =
     let call = call_is s.code is in
@@ -381,7 +380,7 @@ jump_is code.Juo e = (jump.Juo, refl)
 jump_is code.Loop e = (jump.Loop, refl)
 jump_is _ e = absurd (false≢true e)
 
-jump_list_is : (m : Mnemonic) → is_list_jump m ≡ true → m ≡ code.Jl
+jump_list_is : (m : Mnemonic) → is_jump_by_list m ≡ true → m ≡ code.Jl
 jump_list_is code.Jl e = refl
 jump_list_is _ e = absurd (false≢true e)
 
@@ -433,14 +432,14 @@ jumps_on c body n s h is =
     record { label = label; acts = plain_jumps_act c body n s label.name is label.is }
 
 listed_on : (c : Context) (body : List Statement) (n : ℕ) (s : Statement) → IsKnown c body s
-    → is_list_jump s.code ≡ true → GoesByJumpList c body n s
+    → is_jump_by_list s.code ≡ true → GoesByJumpList c body n s
 listed_on c body n s h is =
     let word = jump_list_is s.code is in
     let label = subst (HasInstruction c body s) (ap jump_operation_of word) h.settled.instruction in
     record { label = label; acts = jump_lists_act c body n s label.name word label.is }
 
 called_on : (c : Context) (body : List Statement) (n : ℕ) (s : Statement) → HasElementaryParameters c
-    → IsKnown c body s → is_call s.code ≡ true → CallsNamed c body n s
+    → IsKnown c body s → is_call_instruction s.code ≡ true → CallsNamed c body n s
 called_on c body n s plain h is =
     let has = call_settled c body s is h.settled in
     let called = called_named c s has in

@@ -36,7 +36,6 @@ use Rattle.stl_ast.specs.declared.operands.Numbered.TheVariants as numbered
 use Rattle.stl_ast.specs.declared.operands.Operand.{Operand}
 use Rattle.stl_ast.specs.declared.operands.Operand.TheVariants as operand
 use Rattle.stl_ast.specs.declared.statements.Actual.{Actual}
-use Rattle.stl_ast.specs.Statements.{is_call}
 use Rattle.block_layout.specs.Blocks.{known_block, named_block}
 use Rattle.block_layout.specs.Paths.{cells_at, if_whole, whole_at}
 use Rattle.block_layout.specs.declared.cells.Cell.{Cell}
@@ -65,7 +64,7 @@ use Rattle.machine.specs.declared.places.Access.{Access}
 use Rattle.machine.specs.declared.places.Location.{Location}
 use Rattle.statement_laws.specs.Calls as own
 use Rattle.statement_laws.specs.Jumps.{with_rlo_1, activation_standing_at}
-use Rattle.statement_laws.specs.Laws.{CallsAct, IsNamedActual}
+use Rattle.statement_laws.specs.Laws.{CallsAct, IsNamedActual, is_call_instruction}
 use Rattle.statement_laws.specs.NamedOperands.{NamedItem}
 use Rattle.statement_laws.specs.NamedOperands as named
 use Rattle.statement_laws.specs.Operands.{block_id_of_name, number_of_block_name, named_fixed_place, has_result, item_named_by, place_by, with_instance}
@@ -494,7 +493,7 @@ record SameCall (m : Mnemonic) (how : CallOperation) : Type 0 where
   is : call_operation_of m ≡ Some how
   made : (rlo : Bool) → machine.is_call_made how rlo ≡ own.makes_call m rlo
 
-call_same : (m : Mnemonic) → is_call m ≡ true → (how : CallOperation) × SameCall m how
+call_same : (m : Mnemonic) → is_call_instruction m ≡ true → (how : CallOperation) × SameCall m how
 call_same code.Call e = (how_called.Call, record { no_jump = refl; is = refl; made = λ rlo. refl })
 call_same code.Uc e = (how_called.Uc, record { no_jump = refl; is = refl; made = λ rlo. refl })
 call_same code.Cc e = (how_called.Cc, record { no_jump = refl; is = refl; made = λ rlo. refl })

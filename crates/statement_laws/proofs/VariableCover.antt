@@ -34,7 +34,7 @@ use Rattle.block_layout.specs.declared.members.Member.{Member}
 use Rattle.block_layout.specs.declared.path_ends.ComponentAt.{ComponentAt}
 use Rattle.block_layout.specs.declared.path_ends.PathEnd.{PathEnd}
 use Rattle.block_layout.specs.declared.path_ends.PathEnd.TheVariants as path_end
-use Rattle.stl_types.specs.Context.{Context, data_number, data_place, in_function, number_of_block, is_of_function}
+use Rattle.stl_types.specs.Context.{Context, data_number, data_place, in_function, number_of_block}
 use Rattle.stl_types.specs.OperandRules.{operand_rule_of}
 use Rattle.stl_types.specs.Resolution.{resolution_of}
 use Rattle.stl_types.specs.Variables.{data_at, data_path, data_variable, data_at_path_end, variable_in_area, own_at, own_variable, own_at_path_end, parameter_at}
@@ -45,7 +45,7 @@ use Rattle.stl_types.specs.declared.resolved_operands.ResolvedOperand.TheVariant
 use Rattle.statement_laws.specs.Laws.{HasElementaryParameters, VariablesAreNamed, is_elementary_component, is_variable, stays_inside}
 use Rattle.statement_laws.specs.NamedOperands.{NamedItem}
 use Rattle.statement_laws.specs.NamedOperands as named_as
-use Rattle.statement_laws.specs.Operands.{block_id_of_name, cell_width, component_named, components_of_block, has_result, item_named_by, parameter_named, named_place, place_in_layout, variable_by, variable_named}
+use Rattle.statement_laws.specs.Operands.{block_id_of_name, cell_width, component_named, components_of_block, has_result, item_named_by, parameter_named, named_place, place_in_layout, variable_by, variable_named, is_fc_block}
 use Rattle.statement_laws.specs.Operands as own
 use Rattle.statement_laws.proofs.CoverLemmas.{IsSomeItem, has_no_name, name_left}
 use Rattle.statement_laws.proofs.ResolutionLemmas.{block_same, number_known, resolved_parts, resolved_same}
@@ -274,9 +274,9 @@ local_there c name steps None v r plain there e inside =
     (path_in_whole_block c true (is_some (whole_at c.layouts c.block))
     (path_end_in_block c.layouts c.block true (step.Named name ∷ steps)) v e))
 local_there c name steps (Some m) v r plain there e inside =
-    by (is_of_function (slice_get c.blocks c.block)) refl
+    by (is_fc_block (slice_get c.blocks c.block)) refl
   where
-    by : (fc : Bool) → is_of_function (slice_get c.blocks c.block) ≡ fc
+    by : (fc : Bool) → is_fc_block (slice_get c.blocks c.block) ≡ fc
         → IsSomeItem (if fc then parameter_named c m.place steps
         else place_in_layout (variable_place c.layouts area.Di c.block false (step.Named name ∷ steps)))
     by true fc =

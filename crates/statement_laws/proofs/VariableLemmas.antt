@@ -42,7 +42,7 @@ use Rattle.stl_types.specs.declared.resolved_operands.ResolvedOperand.{ResolvedO
 use Rattle.stl_types.specs.declared.resolved_operands.ResolvedOperand.TheVariants as resolved
 use Rattle.statement_laws.specs.NamedOperands.{NamedItem}
 use Rattle.statement_laws.specs.NamedOperands as named
-use Rattle.statement_laws.specs.Operands.{block_id_of_name, number_of_block_name, cell_width, component_named, components_of_block, named_fixed_place, has_result, place_in_layout, item_named_by, numbered_item, parameter_named, named_place, pointer_constant_bits, variable_by, variable_named, with_instance}
+use Rattle.statement_laws.specs.Operands.{block_id_of_name, number_of_block_name, cell_width, component_named, components_of_block, named_fixed_place, has_result, place_in_layout, item_named_by, numbered_item, parameter_named, named_place, pointer_constant_bits, variable_by, variable_named, with_instance, is_fc_block}
 use Rattle.statement_laws.specs.Operands as own
 use Rattle.statement_laws.proofs.ResolutionLemmas.{about, block_same, carry, direct_named, in_block_same, left_same, letters_same, number_in_same, number_known, opened_named, pointer_same, register_same, resolved_same, symbol_same, view_named}
 
@@ -222,7 +222,7 @@ parameter_same c name [] m v x f there e n =
 
 -- ---- the block's own variables
 
-pub function_same : (b : Option Block) → is_of_function b ≡ is_of_function b
+pub function_same : (b : Option Block) → is_fc_block b ≡ is_of_function b
 function_same None = refl
 function_same (Some b) = refl
 
@@ -243,7 +243,7 @@ local_found c name steps None v x there e n =
     (path_end_in_block c.layouts c.block true (step.Named name ∷ steps)) v e)
     (inside (leaves_from c.layouts c.block true (step.Named name ∷ steps))
     (place_at_path_end c.layouts area.L 0 (path_end_in_block c.layouts c.block true (step.Named name ∷ steps))) x n)
-local_found c name steps (Some m) v x there e n = by (is_of_function (slice_get c.blocks c.block)) refl n
+local_found c name steps (Some m) v x there e n = by (is_fc_block (slice_get c.blocks c.block)) refl n
   where
     path : List PathStep
     path = step.Named name ∷ steps
@@ -253,7 +253,7 @@ local_found c name steps (Some m) v x there e n = by (is_of_function (slice_get 
     sound = path_in_whole_block c false (is_some (whole_at c.layouts c.block))
         (path_end_in_block c.layouts c.block false (step.Named name ∷ steps)) v e
 
-    by : (fc : Bool) → is_of_function (slice_get c.blocks c.block) ≡ fc
+    by : (fc : Bool) → is_fc_block (slice_get c.blocks c.block) ≡ fc
         → (if fc then parameter_named c m.place steps
         else place_in_layout (variable_place c.layouts area.Di c.block false (step.Named name ∷ steps))) ≡ Some x
         → view_named None v ≡ Some x

@@ -3,7 +3,7 @@ use Rattle.std.specs.Prelude.{◌≡◌, ℕ, Bool, true, false, ◌||◌, List,
 use Rattle.std.specs.List.{AllByRecursion}
 use Rattle.plc_base.specs.declared.blocks.BlockId.{BlockId}
 use Rattle.stl_ast.specs.Literals.{AreBytes}
-use Rattle.stl_ast.specs.Statements.{is_empty_statement, is_call}
+use Rattle.stl_ast.specs.Statements.{is_empty_statement}
 use Rattle.stl_ast.specs.declared.blocks.Block.{Block}
 use Rattle.stl_ast.specs.declared.blocks.Tree.{Tree}
 use Rattle.stl_ast.specs.declared.mnemonics.Mnemonic.{Mnemonic}
@@ -14,7 +14,6 @@ use Rattle.stl_ast.specs.declared.statements.Statement.{Statement}
 use Rattle.stl_symbols.specs.Symbol.{Symbol}
 use Rattle.stl_types.specs.Context.{Context}
 use Rattle.stl_types.specs.Parameters.{Callee, callee_of}
-use Rattle.stl_types.specs.Lists.{is_list_jump}
 use Rattle.stl_codegen.specs.Instruction.{instruction}
 use Rattle.flat_code.specs.Instr.{Instr}
 use Rattle.frames.specs.declared.Activation.{Activation}
@@ -25,7 +24,7 @@ use Rattle.sem_kept.specs.SettledStatements.{HasLabel, context_at}
 use Rattle.statement_laws.specs.Calls.{bindings_of, calls_block, parameter_names}
 use Rattle.statement_laws.specs.Effects.{effect_of_statement}
 use Rattle.statement_laws.specs.Jumps.{ends_block, jumps_by_list, jumps_to_target, number_of_label}
-use Rattle.statement_laws.specs.Laws.{Acts, IsNamedActual, is_bit_logic, is_comparison, is_data_block_instruction, is_block_end, is_idle, is_in_family, is_load_or_transfer, is_number_instruction, is_plain_jump, is_relay, is_shift, is_timing}
+use Rattle.statement_laws.specs.Laws.{Acts, IsNamedActual, is_bit_logic, is_comparison, is_data_block_instruction, is_block_end, is_idle, is_in_family, is_load_or_transfer, is_number_instruction, is_plain_jump, is_relay, is_shift, is_timing, is_call_instruction, is_jump_by_list}
 use Rattle.statement_laws.specs.NamedOperands.{NamedItem}
 use Rattle.statement_laws.specs.NamedOperands as named
 use Rattle.statement_laws.specs.Operands.{item_named_by}
@@ -63,7 +62,7 @@ pub record IsNamedStatement (c : Context) (s : Statement) : Type 0 where
   -- the operand names what the statement acts on
   pub operand : IsNamed c s.operand
   -- a call names the block that it calls
-  pub called : is_call s.code ≡ true → NamesCalled c s
+  pub called : is_call_instruction s.code ≡ true → NamesCalled c s
   -- each actual parameter names what is passed
   pub actuals : AllByRecursion (IsNamedActual c) s.actuals
 
@@ -147,11 +146,11 @@ pub record DoesAsWritten
   -- a jump but JL goes to its label or on
   pub jumps : is_plain_jump s.code ≡ true → JumpsToLabel c body n s
   -- JL goes on in the list of jumps behind it, or at its label
-  pub jumps_by_list : is_list_jump s.code ≡ true → GoesByJumpList c body n s
+  pub jumps_by_list : is_jump_by_list s.code ≡ true → GoesByJumpList c body n s
   -- an end of a block ends it as its mnemonic says
   pub ends : is_block_end s.code ≡ true → StepsAs (instruction c body n s) (ends_block s.code)
   -- a call calls the block that it names
-  pub calls : is_call s.code ≡ true → CallsNamed c body n s
+  pub calls : is_call_instruction s.code ≡ true → CallsNamed c body n s
 
 -- each statement but the empty ones of each block of an accepted source, whose elements are bytes,
 -- does as it is written, whatever number it is given

@@ -30,7 +30,6 @@ use Rattle.flat_code.specs.declared.programs.Param.{Param}
 use Rattle.machine.specs.Code.{Code, BlockHead}
 use Rattle.machine.specs.Entering.{call_with_bindings}
 use Rattle.machine.specs.ExecState.{ExecState, exec_state_of, then_ok}
-use Rattle.machine.specs.Places.{no_operand}
 use Rattle.machine.specs.Statement.{StatementStep, Stuck, Went, GlobalStore, call_step, after_system_call, called_block}
 use Rattle.machine.specs.SystemCalls.{arguments_of_activation, system_function}
 use Rattle.machine.specs.declared.places.Access.{Access}
@@ -138,7 +137,7 @@ binding_at access b p = binding_if access b (number_at_location b.place.area b p
 -- what a parameter of the caller that is passed on stands for
 abbrev pub binding_passed_on : Option Binding → Result Binding ℕ
 binding_passed_on (Some b) = Ok b
-binding_passed_on None = Err no_operand
+binding_passed_on None = Err errors.no_operand_error
 
 -- what a parameter stands for by what is passed: a constant by its value, a place as it is at
 -- the call; a place in a data block that is named opens nothing, and is error 16#3A where the block
@@ -153,7 +152,7 @@ binding_of access (named.PlaceIn block w byte bit) p =
     else Err errors.absent_data_block_error
 binding_of access (named.Parameter index w) p =
     binding_passed_on (slice_get p.local.inner.bindings index)
-binding_of access _ p = Err no_operand
+binding_of access _ p = Err errors.no_operand_error
 
 -- how the place for a parameter is tested: as one that is written for OUT, as one that is read
 -- for IN and IN_OUT
@@ -164,7 +163,7 @@ access_of param = if nat_eq param.section section_out then Writing else Reading
 -- block has
 abbrev pub binding_for : Option Param → NamedItem → ExecState → Result Binding ℕ
 binding_for (Some param) x p = binding_of (access_of param) x p
-binding_for None x p = Err no_operand
+binding_for None x p = Err errors.no_operand_error
 
 -- the parameter of an index is bound to what is passed for it, if something is, and then goes on
 -- with `next`

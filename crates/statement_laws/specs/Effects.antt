@@ -42,7 +42,6 @@ use Rattle.stl_ast.specs.declared.literals.Literal.TheVariants as literal
 use Rattle.stl_ast.specs.declared.mnemonics.Mnemonic.{Mnemonic}
 use Rattle.stl_ast.specs.declared.mnemonics.Mnemonic.TheVariants as code
 use Rattle.machine.specs.ExecState.{ExecState, then_ok}
-use Rattle.machine.specs.Places.{no_operand}
 use Rattle.machine.specs.declared.places.Access.TheVariants.{Writing}
 use Rattle.machine.specs.declared.places.Location.{Location}
 use Rattle.statement_laws.specs.NamedOperands.{NamedItem, ItemNumber, OpenBlockFact}
@@ -103,13 +102,13 @@ with_bracket_list brackets p = with_inner (record p.local.inner { brackets = bra
 -- A( to XN(: a bracket opens; none is an eighth
 abbrev pub opens_bracket : Check → ExecState → Result ExecState ℕ
 opens_bracket with p =
-    if length p.local.inner.brackets == errors.most_open_brackets then Err no_operand
+    if length p.local.inner.brackets == errors.most_open_brackets then Err errors.no_operand_error
     else on_regs bracket_begun
     (with_bracket_list (bracket_entry with (registers_of p) ∷ p.local.inner.brackets) p)
 
 -- ): the first bracket of the list, the innermost one, closes; an error where none is open
 abbrev pub closes_one : List Bracket → ExecState → Result ExecState ℕ
-closes_one [] p = Err no_operand
+closes_one [] p = Err errors.no_operand_error
 closes_one (bracket ∷ rest) p = on_regs (bracket_ended bracket) (with_bracket_list rest p)
 
 -- ): the innermost bracket closes
@@ -168,12 +167,12 @@ activates_relay active p = Ok (with_relay (record p.local.inner.relay { active =
 -- MCR(: at most eight zones are open
 abbrev pub opens_relay_zone : ExecState → Result ExecState ℕ
 opens_relay_zone p =
-    if length p.local.inner.relay.zones == errors.most_open_zones then Err no_operand
+    if length p.local.inner.relay.zones == errors.most_open_zones then Err errors.no_operand_error
     else on_regs (after_store true) (with_relay (zone_opened (rlo_of p) p.local.inner.relay) p)
 
 -- )MCR: the last of these zones ends; an error where none is open
 abbrev pub ends_zone_of : List Bool → ExecState → Result ExecState ℕ
-ends_zone_of [] p = Err no_operand
+ends_zone_of [] p = Err errors.no_operand_error
 ends_zone_of (value ∷ around) p =
     on_regs (after_store true) (with_relay (zone_ended p.local.inner.relay) p)
 
@@ -340,13 +339,13 @@ on_counter f n p =
 abbrev pub starts_timer : TimerKind → NamedItem → ExecState → Result ExecState ℕ
 starts_timer how (named.Timer n) p =
     on_timer (timers.start_timer how (rlo_of p) (low_word_of_accu_1 p)) n p
-starts_timer how x p = Err no_operand
+starts_timer how x p = Err errors.no_operand_error
 
 -- CU or CD: a counter counts by the RLO
 abbrev pub counts_counter :
     (Bool → counters.Counter → counters.Counter) → NamedItem → ExecState → Result ExecState ℕ
 counts_counter f (named.Counter n) p = on_counter (λ k. Some (f (rlo_of p) k)) n p
-counts_counter f x p = Err no_operand
+counts_counter f x p = Err errors.no_operand_error
 
 -- S of a counter, and of a bit
 abbrev pub sets_operand : NamedItem → ExecState → Result ExecState ℕ
@@ -365,7 +364,7 @@ resets_operand x p = sets_bit false x p
 abbrev pub frees_operand : NamedItem → ExecState → Result ExecState ℕ
 frees_operand (named.Timer n) p = on_timer (λ t. Some (timers.free_timer (rlo_of p) t)) n p
 frees_operand (named.Counter n) p = on_counter (λ k. Some (counters.free_counter (rlo_of p) k)) n p
-frees_operand x p = Err no_operand
+frees_operand x p = Err errors.no_operand_error
 
 -- ---- data blocks
 
@@ -389,7 +388,7 @@ opens_block_number di n p =
 abbrev pub opens_data_block : NamedItem → ExecState → Result ExecState ℕ
 opens_data_block (named.DataBlock di n) p =
     then_ok (number_of_item n p) (λ which. opens_block_number di which p)
-opens_data_block x p = Err no_operand
+opens_data_block x p = Err errors.no_operand_error
 
 -- CDB: the DB register and the DI register are exchanged
 abbrev pub exchanges_blocks : ExecState → Result ExecState ℕ
@@ -513,7 +512,7 @@ effect_of_operation code.Cu x p = counts_counter counters.count_up x p
 effect_of_operation code.Cd x p = counts_counter counters.count_down x p
 effect_of_operation code.Opn x p = opens_data_block x p
 effect_of_operation code.Cdb x p = exchanges_blocks p
-effect_of_operation _ x p = Err no_operand
+effect_of_operation _ x p = Err errors.no_operand_error
 
 -- what a statement does by its mnemonic and what its operand names: for a place in a data block
 -- that is named, that block is opened first, error 16#3A where it isn't loaded, and the place is

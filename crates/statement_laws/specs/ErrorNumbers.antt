@@ -3,6 +3,10 @@
 -- without its proof. Where writing has a number of its own, it is the next one.
 use Rattle.std.specs.Prelude.{ℕ}
 
+-- an operand that the instruction doesn't take: never in a program that is loaded
+abbrev pub no_operand_error : ℕ
+no_operand_error = 0
+
 -- a BCD digit above 9, or a sign that is none
 abbrev pub bcd_error : ℕ
 bcd_error = 0x21

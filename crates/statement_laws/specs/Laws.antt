@@ -4,7 +4,7 @@ use Rattle.std.specs.List.{AllByRecursion}
 use Rattle.std.specs.Option.{option_and_then}
 use Rattle.plc_base.specs.Folding.{upper_case_name}
 use Rattle.plc_base.specs.declared.blocks.BlockId.{BlockId}
-use Rattle.stl_ast.specs.Statements.{is_empty_statement, is_call}
+use Rattle.stl_ast.specs.Statements.{is_empty_statement}
 use Rattle.stl_ast.specs.declared.blocks.Block.{Block}
 use Rattle.stl_ast.specs.declared.mnemonics.Mnemonic.{Mnemonic}
 use Rattle.stl_ast.specs.declared.mnemonics.Mnemonic.TheVariants as code
@@ -16,13 +16,12 @@ use Rattle.stl_ast.specs.declared.statements.Actual.{Actual}
 use Rattle.stl_ast.specs.declared.statements.Statement.{Statement}
 use Rattle.block_layout.specs.Paths.{folded_path, leaves_structure, leaves_local, plain_kind, structure_of}
 use Rattle.block_layout.specs.declared.cells.Cell.{Cell}
-use Rattle.stl_types.specs.Context.{Context, data_place, is_of_function}
+use Rattle.stl_types.specs.Context.{Context, data_place}
 use Rattle.stl_types.specs.Parameters.{Callee, callee_of}
 use Rattle.stl_types.specs.Resolution.{resolution_of}
 use Rattle.stl_types.specs.declared.resolved_operands.Resolution.TheVariants.{Resolved}
 use Rattle.stl_types.specs.ResolvedStatement.{resolved_operand}
 use Rattle.stl_types.specs.declared.resolved_operands.ResolvedOperand.{ResolvedOperand}
-use Rattle.stl_types.specs.Lists.{is_list_jump}
 use Rattle.stl_codegen.specs.GeneratedProgram.{statements_of}
 use Rattle.stl_codegen.specs.Instruction.{instruction}
 use Rattle.flat_code.specs.Instr.{Instr, Returns}
@@ -34,7 +33,7 @@ use Rattle.machine.specs.Statement.{GlobalStore, instruction_step, continue_with
 use Rattle.statement_laws.specs.Calls.{bindings_of, calls_block, parameter_names}
 use Rattle.statement_laws.specs.NamedOperands.{NamedItem}
 use Rattle.statement_laws.specs.NamedOperands as named
-use Rattle.statement_laws.specs.Operands.{components_of_block, item_named_by, register_named}
+use Rattle.statement_laws.specs.Operands.{components_of_block, item_named_by, register_named, is_fc_block}
 use Rattle.statement_laws.specs.Effects.{effect_of_statement}
 use Rattle.statement_laws.specs.Jumps.{numbered_statement_count, ends_block, jumps_to_target, jumps_by_list, number_of_label}
 
@@ -314,7 +313,7 @@ is_elementary_component cell = nat_eq 0 (length cell.bounds) && is_some (plain_k
 -- the parameters of a function are of elementary type
 abbrev pub HasElementaryParameters : Context → Type 0
 HasElementaryParameters c =
-    is_of_function (slice_get c.blocks c.block) ≡ true
+    is_fc_block (slice_get c.blocks c.block) ≡ true
     → AllByRecursion (λ cell. is_elementary_component cell ≡ true) (components_of_block c)
 
 -- a variable: a path from a declared name, or into a data block
@@ -342,6 +341,13 @@ VariablesAreNamed =
 
 -- ---- calls
 
+-- the calls: CALL, UC, CC
+abbrev pub is_call_instruction : Mnemonic → Bool
+is_call_instruction code.Call = true
+is_call_instruction code.Uc = true
+is_call_instruction code.Cc = true
+is_call_instruction _ = false
+
 -- what an actual parameter resolves to is named
 pub record IsNamedActual (c : Context) (a : Actual) : Type 0 where
   -- what the value of the actual parameter resolves to
@@ -360,7 +366,7 @@ CallsAct =
     (c : Context) (body : List Statement) (n : ℕ) (s : Statement) (v : ResolvedOperand)
     (name : BlockName) (db : Option BlockName) (id : BlockId) (instance : Option ℕ)
     (callee : Callee)
-    → is_call s.code ≡ true → s.operand ≡ operand.Called name db
+    → is_call_instruction s.code ≡ true → s.operand ≡ operand.Called name db
     → resolved_operand c s ≡ Some v
     → item_named_by c (operand.Called name db) ≡ Some (named.Called id instance)
     → callee_of c (operand.Called name db) ≡ Some callee
@@ -397,12 +403,17 @@ StatementsAreNumbered = (c : Context) (b : Block) → HasNumberedStatements c b
 
 -- ---- all statements
 
+-- the jump by list: JL
+abbrev pub is_jump_by_list : Mnemonic → Bool
+is_jump_by_list code.Jl = true
+is_jump_by_list _ = false
+
 -- a mnemonic is in one of the families of instructions
 abbrev pub is_in_family : Mnemonic → Bool
 is_in_family m =
     is_bit_logic m || is_load_or_transfer m || is_number_instruction m || is_comparison m
     || is_shift m || is_timing m || is_relay m || is_data_block_instruction m || is_idle m
-    || is_plain_jump m || is_list_jump m || is_block_end m || is_call m
+    || is_plain_jump m || is_jump_by_list m || is_block_end m || is_call_instruction m
 
 -- each mnemonic but that of the empty statement is in a family
 abbrev pub FamiliesAreAll : Type 0

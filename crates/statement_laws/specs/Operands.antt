@@ -2,6 +2,7 @@
 -- its address, a variable by its place in the layout.
 use Rattle.std.specs.Prelude.{ℕ, zero, suc, ◌+◌, ◌-◌, ◌*◌, nat_eq, Bool, true, false, is_some, List, [], ◌∷◌, length, codes, slice_get, Option, Some, None, if◌then◌else◌}
 use Rattle.std.specs.Option.{option_map, option_and_then}
+use Rattle.plc_base.specs.Kinds.{is_function}
 use Rattle.plc_base.specs.Folding.{upper_case_name, is_same_name}
 use Rattle.plc_base.specs.declared.blocks.BlockId.{BlockId}
 use Rattle.plc_base.specs.declared.places.Area.{Area}
@@ -29,7 +30,7 @@ use Rattle.block_layout.specs.Paths.{cells_at, folded_path, plain_kind}
 use Rattle.block_layout.specs.declared.blocks.Section.TheVariants as section
 use Rattle.block_layout.specs.declared.cells.Cell.{Cell}
 use Rattle.block_layout.specs.declared.members.Member.{Member}
-use Rattle.stl_types.specs.Context.{Context, is_of_function}
+use Rattle.stl_types.specs.Context.{Context}
 use Rattle.statement_laws.specs.NamedOperands.{NamedItem, ItemNumber}
 use Rattle.statement_laws.specs.NamedOperands as named
 
@@ -116,6 +117,11 @@ abbrev pub has_result : Option Block → Bool
 has_result None = false
 has_result (Some b) = is_some b.result
 
+-- the block is a function
+abbrev pub is_fc_block : Option Block → Bool
+is_fc_block None = false
+is_fc_block (Some b) = is_function b.kind
+
 -- the width of a component of elementary type
 abbrev pub cell_width : Option Cell → Option Width
 cell_width None = None
@@ -142,7 +148,7 @@ abbrev pub variable_by : Context → List ℕ → List PathStep → Option Membe
 variable_by c name steps None =
     place_in_layout (variable_place c.layouts area.L c.block true (step.Named name ∷ steps))
 variable_by c name steps (Some m) =
-    if is_of_function (slice_get c.blocks c.block) then parameter_named c m.place steps
+    if is_fc_block (slice_get c.blocks c.block) then parameter_named c m.place steps
     else place_in_layout (variable_place c.layouts area.Di c.block false (step.Named name ∷ steps))
 
 -- the variable of the block that a name means, by its steps

@@ -25,7 +25,6 @@ use Rattle.frames.specs.declared.bindings.Binding.TheVariants as binding
 use Rattle.stl_ast.specs.declared.literals.Literal.{Literal}
 use Rattle.stl_ast.specs.declared.literals.Literal.TheVariants as literal
 use Rattle.machine.specs.ExecState.{ExecState, then_ok}
-use Rattle.machine.specs.Places.{no_operand}
 use Rattle.machine.specs.declared.places.Access.{Access}
 use Rattle.machine.specs.declared.places.Access.TheVariants.{Reading, Writing}
 use Rattle.machine.specs.declared.places.Location.{Location}
@@ -206,14 +205,14 @@ place_of_operand_place access (named.ByRegister None width register count) p =
 abbrev pub place_of_binding : Option Binding → Result Location ℕ
 place_of_binding (Some (binding.AtPlace place width frame)) =
     Ok (record { place = place; width = width; frame = frame })
-place_of_binding _ = Err no_operand
+place_of_binding _ = Err errors.no_operand_error
 
 -- the place of what an operand names
 unfoldable pub place_of_operand : Access → NamedItem → ExecState → Result Location ℕ
 place_of_operand access (named.Place place) p = place_of_operand_place access place p
 place_of_operand access (named.Parameter index width) p =
     place_of_binding (slice_get p.local.inner.bindings index)
-place_of_operand access _ p = Err no_operand
+place_of_operand access _ p = Err errors.no_operand_error
 
 -- ---- numbers and bits
 
@@ -222,7 +221,7 @@ abbrev pub number_of_parameter : Option Binding → ExecState → Result ℕ ℕ
 number_of_parameter (Some (binding.AtPlace place width frame)) p =
     number_or_error Reading (record { place = place; width = width; frame = frame }) p
 number_of_parameter (Some (binding.Constant value)) p = Ok value
-number_of_parameter _ p = Err no_operand
+number_of_parameter _ p = Err errors.no_operand_error
 
 -- the number of a timer, counter or data block
 unfoldable pub number_of_item : ItemNumber → ExecState → Result ℕ ℕ
@@ -249,7 +248,7 @@ number_of_operand (named.Parameter index width) p =
     number_of_parameter (slice_get p.local.inner.bindings index) p
 number_of_operand (named.Constant value) p = Ok (bits_of_literal value)
 number_of_operand (named.Pointer value) p = Ok value
-number_of_operand _ p = Err no_operand
+number_of_operand _ p = Err errors.no_operand_error
 
 -- what L reads: of a timer the time left in units of its base, of a counter its value
 unfoldable pub number_to_load : NamedItem → ExecState → Result ℕ ℕ
@@ -261,7 +260,7 @@ number_to_load x p = number_of_operand x p
 unfoldable pub bcd_to_load : NamedItem → ExecState → Result ℕ ℕ
 bcd_to_load (named.Timer n) p = of_timer time_left n p
 bcd_to_load (named.Counter n) p = of_counter count_bcd n p
-bcd_to_load _ p = Err no_operand
+bcd_to_load _ p = Err errors.no_operand_error
 
 -- the bit that a bit logic instruction reads: of a timer its output, of a counter whether its value
 -- is above 0
