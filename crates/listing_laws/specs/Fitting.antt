@@ -38,7 +38,7 @@ IsBacked a c own f (passed.InBlock number area width byte bit) =
     (nat_eq number 0 ≡ false) × (data_number c (data_block_name number) ≡ Some number)
 IsBacked a c own f _ = Unit {0}
 
--- what has no fault in the code fits in the listing
+-- what has no fault in the code fits in the listing, where what is passed is backed
 abbrev pub AreFittingListed : Type 0
 AreFittingListed =
     (a : Environment) (c : Context) (own : List Formal) (f : Formal) (r : ParameterRecord)

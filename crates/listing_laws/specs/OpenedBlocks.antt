@@ -1,4 +1,4 @@
--- A statement of a source that opens a data block acts on a place in it.
+-- The fixed place on which a statement of a source acts that opens a data block lies in it.
 use Rattle.std.specs.Prelude.{◌≡◌, ℕ, List, Option}
 use Rattle.std.specs.List.{AllByRecursion}
 use Rattle.plc_base.specs.declared.places.Area.TheVariants as area

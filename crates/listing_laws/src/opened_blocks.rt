@@ -1,7 +1,7 @@
 ghost use Rattle.listing_laws.specs.OpenedBlocks.{AreOpenedRight};
 
-/// A statement of a source's program that opens a data block acts on a place in it, and what is
-/// passed in a data block is a place in one.
+/// The fixed place on which a statement of a source's program acts that opens a data block lies in
+/// it, and what is passed in a data block is a place in one.
 pub fn law_of_opened_blocks()
     ensures { AreOpenedRight }
 {}

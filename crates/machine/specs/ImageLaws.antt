@@ -19,8 +19,8 @@ pub record ImageLaws : Type 0 where
   pub brackets : BracketsFit
   -- no zone is a ninth open one, and no `)MCR` lacks an open one
   pub zones : ZonesFit
-  -- each jump has as its target a statement of its block with the same brackets and as many zones
-  -- open
+  -- each jump has as its target a statement of its block, where brackets of the same op codes and as
+  -- many zones stand open
   pub targets : JumpsLand
   -- at most 255 JU and nothing else stand between a JL and its target
   pub lists : ListsLead

@@ -26,7 +26,8 @@ ghost use Rattle.machine.specs.Statement.{GlobalStore, step_found, statement_ste
 ghost use Rattle.machine.specs.MovedCode.{StatementsMove};
 ghost use Rattle.machine.specs.There.{is_statement_complete};
 
-/// A statement that is there, with what it calls, goes.
+/// A statement that is there with what it calls, and at a return with the head of its own block, isn't
+/// stuck.
 pub fn what_is_there_goes()
     ensures { (c : Code) (a : Activation) (w : GlobalStore)
         → is_statement_complete c (c.fetch a.running.frame.block a.running.frame.at)
@@ -62,7 +63,8 @@ pub fn what_fits_goes()
 }
 
 /// Of a program that verifies an activation that fits does so again after each statement, whatever
-/// comes of it: by the statement's meaning, and by what a call of `statement` answers.
+/// comes of it, or has ended and memory keeps its sizes: by the statement's meaning, and by what a call
+/// of `statement` answers.
 pub fn what_fits_lasts()
     ensures step { (p : Program) (a : Activation) (w : GlobalStore)
         → Verifies p → FitsProgram p w.memory a
@@ -109,7 +111,7 @@ pub fn what_fits_may_change()
         → FitsProgram p m b }
 {}
 
-/// After RET_VAL was given an activation fits as before.
+/// Of a program that verifies an activation that fits does so again after RET_VAL was given.
 pub fn results_fit()
     ensures { (p : Program) (m n : Areas) (a b : Activation) (to : Binding) (value : ℕ)
         → Verifies p → FitsProgram p m a → GivesResult to value a b m n
@@ -118,7 +120,8 @@ pub fn results_fit()
     what_verifying_gives();
 }
 
-/// Memory begins as one of the program, and no call of it changes a size.
+/// Memory begins as one of the program, and no write, input, clearing of the outputs or update of the
+/// images changes a size.
 pub fn memory_is_kept()
     ensures begins { (f : Profile) (p : Program)
         → IsMemoryOf (code_of p) (initial_memory f (code_of p).blocks) }

@@ -406,8 +406,8 @@ pub record HasPrintedForms (t : Tree) : Type 0 where
   -- each clause is printed on the line that the tree has for it
   pub lines : AreOnLines 0 (flat_map block_clauses t.blocks)
 
--- tokens that show the pieces of a tree of the forms of a listing, whose clauses stand on their
--- lines, are read as that tree
+-- the tokens of the pieces of a tree of the forms of a listing, at the places where these are
+-- printed, are read as that tree in every text that shows the pieces there
 abbrev pub ArePrintedTreesRead : Type 0
 ArePrintedTreesRead =
     (source : List ℕ) (t : Tree) → HasPrintedForms t

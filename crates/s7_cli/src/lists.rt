@@ -1,3 +1,4 @@
+//! Adding to a list of whatever elements.
 ghost use Rattle.std.specs.Prelude.{◌≡◌, ◌++◌, [], ◌∷◌, OnOk};
 
 use std::alloc::AllocError;

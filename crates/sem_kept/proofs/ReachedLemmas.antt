@@ -1,5 +1,6 @@
--- What paths, addresses and symbols come to: a place, a parameter, a timer, a counter, a block, or a variable that isn't
--- elementary. One walk along them, for all that asks what they can't be or how long their ops are.
+-- What paths, addresses and symbols come to: a place, a parameter, a timer, a counter, a block, or
+-- a variable that isn't elementary. One walk along them, for all that asks what they can't be or
+-- how long their ops are.
 use Rattle.std.proofs.Common.{ℕ, Bool, true, false, if◌then◌else◌, List, Option, Some, None}
 use Rattle.std.specs.Option.{IfSome}
 use Rattle.std.specs.Prelude.{◌/◌, nat_le}
@@ -30,7 +31,7 @@ use Rattle.stl_types.specs.declared.resolved_operands.Resolution.{Resolution}
 use Rattle.stl_types.specs.declared.resolved_operands.Resolution.TheVariants.{Resolved}
 use Rattle.stl_types.specs.declared.resolved_operands.ResolvedOperand.TheVariants as resolved
 
--- one of these, or nothing that is seen; the data block of a place has such a number
+-- one of these, or nothing that is resolved; the data block of a place has such a number
 abbrev pub IsReached : (ℕ → Type 0) → Resolution → Type 0
 IsReached P (Resolved (resolved.Direct place width side declared)) = P place.number
 IsReached P (Resolved (resolved.Parameter index section declared)) = Unit {0}

@@ -19,7 +19,8 @@ err_same r s same = cc
 pub ok_no_err : {B E : Type 0} (b : B) (r : E) → ◌≡◌ {A = Result B E} (Ok b) (Err r) → ⊥
 ok_no_err b r same = cc
 
--- a stage has one outcome where it makes one thing, makes nothing of what it refuses, and refuses in one way
+-- a stage has one outcome where it makes one thing, makes nothing of what it refuses, and refuses
+-- in one way
 pub one_by_parts : {A B E : Type 0} (stage : A → Result B E → Type 0)
     → ((a : A) (b c : B) → stage a (Ok b) → stage a (Ok c) → b ≡ c)
     → ((a : A) (b : B) (r : E) → stage a (Ok b) → stage a (Err r) → ⊥)
@@ -58,7 +59,7 @@ in_turn_one first second one_first one_second a (Err r) (Err s) (inr (b, at_b, r
 in_turn_one first second one_first one_second a (Err r) (Err s) (inr (b, at_b, r_after)) (inr (c, at_c, s_after)) =
     one_second c (Err r) (Err s) (one_outcome_of_first first second one_first a b c (Err r) at_b at_c r_after) s_after
 
--- an outcome of the second stage for what the first has one_outcome_of_first
+-- an outcome of the second stage for the one outcome of the first
 after_first : {A B C E : Type 0} (first : A → Result B E → Type 0) (second : B → Result C E → Type 0) (a : A) (b : B)
     → first a (Ok b) → (x : Result C E) × second b x → (x : Result C E) × HaveOutcomeInTurn first second a x
 after_first first second a b at_b (Ok c, after) = (Ok c, (b, at_b, after))

@@ -45,7 +45,7 @@ abbrev pub IsOpenedFor : Operand → Option ℕ → Type 0
 IsOpenedFor o None = Unit {0}
 IsOpenedFor o (Some number) = is_in_db o ≡ true
 
--- what a CALL passes to the block that is seen: each parameter by an index above the last one
+-- what a CALL passes to the block of this signature: each parameter by an index above the last one
 -- before it, with an actual parameter that isn't bad and fits
 abbrev pub ArePassed : Environment → Option CalleeSignature → (before : Option ℕ) → List Passing
     → Type 0

@@ -57,7 +57,7 @@ abbrev pub program_with : List StatedBlock → List DataBlock → List NameEntry
 program_with blocks data_blocks names =
     record { code_blocks = map compiled_block blocks; data_blocks = data_blocks; names = names }
 
--- the code of the program that is made of statements follows them
+-- the code of the program that is made of statements, for which code can be generated, follows them
 abbrev pub ProgramsFollow : Type 0
 ProgramsFollow =
     (blocks : List StatedBlock) (data_blocks : List DataBlock) (names : List NameEntry)

@@ -20,8 +20,9 @@ ghost use Rattle.sem_kept.specs.Resumption.{SourcesResume, ImagesResume};
 ghost use Rattle.sem_kept.specs.Initial.{InitialValuesAreWhole};
 ghost use Rattle.sem_kept.specs.SettledStatements.{StatementsSettle};
 
-/// At the offset of each statement of a block stands the statement that was compiled, with offsets
-/// as its targets, and behind the last one none begins.
+/// Of statements that code can be generated for: at the offset of each statement of their block
+/// stands the statement that was compiled, with offsets as its targets, and behind the last one none
+/// begins.
 pub fn compiled_is_read_back()
     ensures { (b : CodeBlock) (statements : List SourceInstruction) → AreCompiled 0 statements
         → b.code ≡ code_in statements → b.lines ≡ lines_in statements
@@ -30,7 +31,8 @@ pub fn compiled_is_read_back()
     flat_code::laws::one_number_each();
 }
 
-/// The code of a program that is made of statements follows the code of these statements.
+/// The code of a program that is made of statements, for which code can be generated, follows the
+/// code of these statements.
 pub fn programs_follow()
     ensures { ProgramsFollow }
 {
@@ -49,24 +51,25 @@ pub fn accepted_verifies()
     ensures { AcceptedVerifies }
 {}
 
-/// Of a source that breaks no rule no statement comes to the instruction that stands in for what names
-/// nothing: each is a jump to a label of its body, a call of a block that is found, or names what its
-/// instruction takes. Each actual parameter names what is passed, and a parameter of that block, no two
-/// the same one.
+/// Of a source that breaks no rule no statement comes to the instruction that stands in for what
+/// names nothing: each is a jump to a label of its body, a call of a block that is found, or names
+/// what its instruction takes. Each actual parameter names what is passed, and a parameter of that
+/// block, no two the same one.
 pub fn statements_settle()
     ensures { StatementsSettle }
 {}
 
-/// Of a source that breaks no rule no initial value is cut: the initial bytes of each data block are
-/// zeros over which its initial values and its settings are written, each whole within the block and
-/// in no fewer bits than it has. Each setting is written, and no component has more initial values than
-/// elements.
+/// Of a source that breaks no rule no initial value is cut: the initial bytes of each data block
+/// are zeros over which its initial values and its settings are written, each whole within the
+/// block and in no fewer bits than it has. Each setting is written, and no component has more
+/// initial values than elements.
 pub fn initial_values_are_whole()
     ensures { InitialValuesAreWhole }
 {}
 
-/// The program of statements is at each profile after every history in the state in which the
-/// statements are, but for the positions of frames; so every entry answers and shows the same.
+/// The code of blocks, for whose statements code can be generated, and that of their program do the
+/// same along every history at each profile: they leave the same memory, timers and counters, mode,
+/// scheduler and diagnostics, and each entry answers and shows the same.
 pub fn programs_are_kept()
     ensures { ProgramsAreKept }
 {
@@ -88,9 +91,9 @@ pub fn law_of_sources()
     stl_parser::law_of_clauses();
 }
 
-/// The program of a source that breaks no rule has an image and verifies, its names are those that
-/// the symbols file gives, and at each profile it runs as the source means: no history tells it from
-/// the statements of the source.
+/// The program of a source that breaks no rule, whose symbols file breaks none either, has an image
+/// and verifies, its names are those that the symbols file gives, and at each profile it runs as
+/// the source means: no history tells it from the statements of the source.
 pub fn programs_run()
     ensures { ProgramsRun }
 {
@@ -99,10 +102,10 @@ pub fn programs_run()
     programs_are_kept();
 }
 
-/// Each image of the program of a source that breaks no rule, of whatever version and profile, keeps
-/// the source with its symbols: it is in the grammar of images and verifies, its names are those that
-/// the symbols file gives, and with the sizes of its profile no history tells its program from the
-/// statements of the source.
+/// Each image of the program of a source that breaks no rule, whose symbols have English addresses,
+/// of whatever version and profile, keeps the source with its symbols: it is in the grammar of
+/// images and verifies, its names are those that the symbols file gives, and with the sizes of its
+/// profile no history tells its program from the statements of the source.
 pub fn compiled_is_kept()
     ensures { ImagesKeepSources }
 {

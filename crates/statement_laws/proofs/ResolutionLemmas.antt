@@ -1,4 +1,5 @@
--- What an operand resolves to is what it names, and its operand in the code is that for what is named.
+-- What an operand resolves to is what it names, and its operand in the code is that for what is
+-- named.
 use Rattle.std.proofs.Common.{ℕ, suc, ◌≡◌, ◌+◌, ◌*◌, nat_eq, Bool, true, false, ◌&&◌, not, ℤ, pos, negsuc, List, [], ◌∷◌, map, Option, Some, None, is_none, if◌then◌else◌, refl, sym, ◌∙◌, ap}
 use Rattle.std.specs.Option.{option_map, option_and_then}
 use Rattle.std.proofs.Common.{eqb-true}
@@ -52,7 +53,7 @@ use Rattle.statement_laws.specs.Operands as own
 use Rattle.statement_laws.specs.Reading.{bits_of_literal, number_behind, twos_complement, s5time_bits_or_zero}
 use Rattle.statement_laws.proofs.FlatLemmas.{flat_of}
 
--- ---- what a view names
+-- ---- what a resolved operand names
 
 -- the constant that an operand is
 abbrev pub about : Operand → Option Literal
@@ -218,7 +219,7 @@ opened_first k v x e = opens_same k v ∙ ap (on_named (codegen.block_opened_by_
 
 -- ---- what the rules leave
 
--- the rule that a view breaks with a form, where the operand is this constant or none
+-- the rule that a resolved operand breaks with a form, where the operand is this constant or none
 abbrev pub rule_with_constant : OperandRule → Option Literal → ResolvedOperand → Option ℕ
 rule_with_constant f (Some value) v = if takes_constant f value then None else Some 25
 rule_with_constant f None v = rule_of_resolved_operand f v
@@ -251,7 +252,7 @@ resolved_parts c s v e =
 pub resolved_same : (v w : ResolvedOperand) → Resolved v ≡ Resolved w → v ≡ w
 resolved_same v w e = cc
 
--- a view that is known, and what it names
+-- a resolved operand that is known, and what it names
 pub carry : (k : Option Literal) (known v : ResolvedOperand) (there x : NamedItem)
     → view_named k known ≡ Some there → Resolved known ≡ Resolved v → Some there ≡ Some x
     → view_named k v ≡ Some x

@@ -81,7 +81,7 @@ same_word a b e =
     upper : str_to_ascii_uppercase a ≡ str_to_ascii_uppercase b
     upper = sym (all_raised a) ∙ ap str_to_ascii_uppercase ((bytes_eq-Decides (str_to_ascii_lowercase a) (str_to_ascii_lowercase b)).0 e) ∙ all_raised b
 
--- what is mapped_holds of whatever was read
+-- what is mapped has what holds of whatever was read
 mapped_holds : {A B : Type 0} (o : Option A) (f : A → B) (P : B → Type 0) → ((x : A) → P (f x))
     → IfSome (option_map f o) P
 mapped_holds None f P h = tt

@@ -116,7 +116,7 @@ pub record GoesByJumpList
     : Type 0 where
   -- the operand is a label of the body
   pub label : HasLabel body s
-  -- the instruction goes on in the list of jumps behind it, or at the label
+  -- the instruction goes on at a statement of the list behind it, or at the label
   pub acts :
       StepsAs (instruction c body n s)
       (λ program next a w. jumps_by_list n (number_of_label label.name body) a w)
@@ -145,7 +145,7 @@ pub record DoesAsWritten
   pub goes_on : is_no_branch s.code ≡ true → ActsOnItsOperand c body n s
   -- a jump but JL goes to its label or on
   pub jumps : is_plain_jump s.code ≡ true → JumpsToLabel c body n s
-  -- JL goes on in the list of jumps behind it, or at its label
+  -- JL goes on at a statement of the list behind it, or at its label
   pub jumps_by_list : is_jump_by_list s.code ≡ true → GoesByJumpList c body n s
   -- an end of a block ends it as its mnemonic says
   pub ends : is_block_end s.code ≡ true → StepsAs (instruction c body n s) (ends_block s.code)

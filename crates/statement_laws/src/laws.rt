@@ -2,8 +2,8 @@
 ghost use Rattle.statement_laws.specs.AcceptedStatements.{AcceptedOperandsAreNamed, AcceptedStatementsAct};
 ghost use Rattle.statement_laws.specs.Laws.{BitLogicActs, CallsAct, ComparisonsAct, DataBlocksAct, EndsAct, FamiliesAreAll, IdleActs, JumpListsAct, LoadsAct, NumbersAct, OperandsAreNamed, PlainJumpsAct, RelayActs, ShiftsAct, StatementsAreNumbered, TimingActs, VariablesAreNamed};
 
-/// An operand that its instruction takes, and that is no variable and no called block, names
-/// something.
+/// An operand that its instruction takes, and that is no variable, no called block and no lone word
+/// but a register's name, names something.
 pub fn operands_are_named()
     ensures { OperandsAreNamed }
 {}
@@ -71,7 +71,8 @@ pub fn plain_jumps_act()
     ensures { PlainJumpsAct }
 {}
 
-/// JL goes to the jump behind it that the lowest byte of accumulator 1 counts, or to its label.
+/// JL goes to the statement behind it that the lowest byte of accumulator 1 counts, which is a JU in
+/// a source that breaks no rule on lists, or to its label.
 pub fn jump_lists_act()
     ensures { JumpListsAct }
 {}

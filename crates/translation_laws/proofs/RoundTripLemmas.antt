@@ -216,7 +216,7 @@ place_anew g position' p q t u us w at is text e =
     ∙ ap (λ c. token_place_behind position'.place position'.before c w (next_class g us)) (class_anew g t u w is text)
     ∙ ap (λ r. token_place_behind r position'.before (token_class (kind_of_rewritten t.kind w) w) w (next_class g us)) at ∙ e
 
--- the spots of both texts are the same but for what differs by a name
+-- the positions in both texts are the same but for what differs by a name
 record IsPositionNear (position position' : TranslationPosition) : Type 0 where
   place : position'.place ≡ position.place
   before : IsNear position.before position'.before

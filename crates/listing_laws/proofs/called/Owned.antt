@@ -256,7 +256,7 @@ module _ (c : Context) (own : in_function c ≡ true → AllByRecursion IsParame
             either_way SeenOwn (in_function c) (parameter_at c component kind) (variable_in_area kind (elementary_place area.Di 0 component.offset (Some kind)))
             (parameter_own component kind h e) (in_area_own kind area.Di 0 component.offset)
 
-  -- ---- what is seen
+  -- ---- what is resolved
 
   elsewhere_own : (w : PathEnd) → SeenOwn (own_at_path_end c true w)
   elsewhere_own path_end.Unknown = tt

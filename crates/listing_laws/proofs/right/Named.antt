@@ -1,4 +1,4 @@
--- What an operand names is there, where the operand is seen; and listed operands leave no array.
+-- What an operand names is there, where the operand is resolved; and listed operands leave no array.
 use Rattle.std.proofs.Common.{◌≡◌, ℕ, Bool, true, false, ◌&&◌, ◌||◌, List, [], Option, Some, None, if◌then◌else◌, refl, ap, ap₂, ◌∙◌}
 use Rattle.std.specs.Prelude.{◌==◌}
 use Rattle.std.specs.Option.{is_none, option_and_then}

@@ -201,7 +201,7 @@ named_seen c listed formals (operand.Other name) has h n = tt
 named_seen c listed formals (operand.OpenBlock di name) has h n = opened_is_seen listed di (data_number c name) (number_stands c listed formals has name)
 named_seen c listed formals (operand.Called name instance) has h n = called_is_seen listed (whole_called_block c (named_block c.symbols name)) instance (instance_number c instance)
 
--- what is seen is this
+-- what is resolved is this
 seen_is : (own : Bool) (listed : Context) (r : Resolution) (v : ResolvedOperand) → r ≡ Resolved v → IfSeen own listed r → IsSeen own listed v
 seen_is own listed r v e h = subst (IfSeen own listed) e h
 

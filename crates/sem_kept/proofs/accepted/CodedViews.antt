@@ -55,7 +55,7 @@ IsWord n = n ≤ 65535
 abbrev pub PlaceFits : Place → Type 0
 PlaceFits place = IsWord place.number × IsWord place.byte × (place.bit ≤ 7)
 
--- the numbers of a view, and the bits of a constant
+-- the numbers of a resolved operand, and the bits of a constant
 abbrev pub NumbersFit : Operand → ResolvedOperand → Type 0
 NumbersFit o (resolved.Direct place w side declared) = PlaceFits place
 NumbersFit o (resolved.Parameter index section declared) = index < 256

@@ -30,7 +30,7 @@ abbrev pub Settles : Resolution → Type 0
 Settles Unjudged = ⊥
 Settles _ = Unit {0}
 
--- ---- what is seen as nothing or as a label
+-- ---- what is resolved to nothing or to a label
 
 -- only nothing and a label come to these
 abbrev is_bare : Resolution → Bool

@@ -200,7 +200,7 @@ record IsCall (c : Context) (name : BlockName) (inst : Option BlockName) (id : B
 
 -- ---- what is called
 
--- the signatures_of_source of the blocks of a program
+-- the signatures of the blocks of a program
 abbrev signatures_of_source : List Symbol → Tree → List BlockSignature
 signatures_of_source symbols t =
     map signature_of (map record_of_block (map compiled_block (code_blocks_of t symbols (layouts_of t symbols))))
@@ -647,7 +647,7 @@ call_there symbols t tree k name inst there = (
         × (resolution_of_call (Some block.id) inst (instance_of_name (context_at symbols t k) inst) ≡ Resolved (resolved.Called block.id n))
     given = instance_known symbols t tree k block.id inst (or_second (is_unknown_called y name) (is_unknown_instance y inst) there)
 
--- a call is one of what it is seen as
+-- a call is one of what it is resolved to
 call_of : (c : Context) (name : BlockName) (inst : Option BlockName) (id j : BlockId) (instance i : Option ℕ)
     → IsCall c name inst j i → resolution_of c (operand.Called name inst) ≡ Resolved (resolved.Called id instance)
     → IsCall c name inst id instance

@@ -1,4 +1,5 @@
--- The operation of an instruction takes the width of its operand, writes no input, and prepares nothing.
+-- The operation of an instruction takes the width of its operand, writes no input, and prepares
+-- nothing.
 use Rattle.std.proofs.Common.{◌≡◌, ℕ, ◌+◌, Bool, true, false, ◌&&◌, ◌||◌, not, Option, Some, None, refl, sym, ap, ◌∙◌}
 use Rattle.std.specs.Prelude.{◌==◌, if◌then◌else◌, nat_eq}
 use Rattle.plc_base.specs.declared.places.Area.{Area}
@@ -103,8 +104,8 @@ IsCodeOf m code =
 abbrev pub IsOtherCode : ℕ → Type 0
 IsOtherCode code = IsCodeBy None false code × IsZoneCodeBy false false code
 
--- what an operation of a mnemonic has, whatever its operand: it prepares nothing, goes on to the next statement, and its
--- code is one by what the mnemonic does to brackets and zones
+-- what an operation of a mnemonic has, whatever its operand: it prepares nothing, goes on to the
+-- next statement, and its code is one by what the mnemonic does to brackets and zones
 pub record IsOperationOf (m : Mnemonic) (w : Operation) : Type 0 where
   pub prepares : prepares_statement (op_code_of w) ≡ false
   pub goes_on : goes_to_next_statement w ≡ true
@@ -292,8 +293,8 @@ input_section index _ declared = refl
 
 -- ---- operands
 
--- what a view names fits what surrounds the block, whatever the instruction; a variable has the
--- width of its type
+-- what a resolved operand names fits what surrounds the block, whatever the instruction; a variable
+-- has the width of its type
 abbrev pub HasWidth : Width → Option Simple → Type 0
 HasWidth w None = Unit {0}
 HasWidth w (Some kind) = w ≡ width_of kind

@@ -322,7 +322,7 @@ least_op : (o : Operand) → 2 ≤ operand_ops_size o
 least_op (operand.Named path steps) = omega (arith, path_some path)
 least_op _ = omega arith
 
--- what isn't seen, a label and what is called: an operand of seven bytes
+-- what isn't resolved, a label and what is called: an operand of seven bytes
 abbrev IsWide : ℕ → Resolution → Type 0
 IsWide n (Resolved resolved.Label) = 7 ≤ n
 IsWide n (Resolved (resolved.Called id instance)) = 7 ≤ n

@@ -75,7 +75,7 @@ no_target o _ = refl
 
 -- ---- what is called
 
--- what is resolved_by_rule is seen, and breaks no rule
+-- what is resolved by a rule is a resolved operand, and breaks no rule
 resolved_by_rule : (r : Option ℕ) (x : Resolution) (v : ResolvedOperand)
     → (if is_none r then operand_if_resolved x else None) ≡ Some v → (r ≡ None) × (x ≡ Resolved v)
 resolved_by_rule None (Resolved w) v e = (refl, cc)
